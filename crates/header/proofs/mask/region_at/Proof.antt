@@ -1,0 +1,28 @@
+use mathlib.Core.Path.{_≡_}
+use Prim.Native.Nat.{_/_, _-_}
+use native.Mathlib.Omega.{arith}
+use borrow.Author.Needs.{needs}
+use Rattle.header.proofs.mask.region_at.Statement.{statement}
+use Rattle.header.proofs.mask.region_at.Tie as tie
+
+element-copy-out-result : tie.Need-element-copy-out-result
+element-copy-out-result c = search needs
+
+returns : tie.Need-returns
+returns c =
+    let low : c .before .before .args .at / 8 - 2 ≡ 0 = omega arith in
+    rw low
+
+mul-result : tie.Need-mul-result
+mul-result c = search needs
+
+element-copy-out-result-2 : tie.Need-element-copy-out-result-2
+element-copy-out-result-2 c = search needs
+
+returns-2 : tie.Need-returns-2
+returns-2 c = search needs
+
+pub region-at-spec : {M : Type 1} → statement M
+region-at-spec =
+    tie.close
+    (tie.spec element-copy-out-result returns mul-result element-copy-out-result-2 returns-2)

@@ -1,0 +1,10 @@
+pub mod Offset
+pub mod Bits
+pub mod Byte
+pub mod Tables
+pub mod Mask
+pub mod Every
+pub mod Disjoint
+pub mod Register
+pub mod Dword
+pub mod Sizing

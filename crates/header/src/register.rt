@@ -1,0 +1,78 @@
+// Register reads and writes on the 64 bytes of one node, which are lent out of the middle of their image.
+ghost use mathlib.Core.Path.{_≡_};
+ghost use lib.ListN.{getD};
+ghost use Rattle.header.specs.Register.{dwordOf, readRegister, writeByte, writeDword, writeRegister};
+use rack::Node;
+
+// The byte at a place, 0 past the end.
+pub fn byte_at(part: &[u8], at: usize) -> u8
+    ensures { λ r. ⌜ r ≡ getD (now (part .entry)) at 0 ⌝ }
+{
+    if at < part.len() { part[at] } else { 0 }
+}
+
+fn dword_of(a: u8, b: u8, c: u8, d: u8) -> u32
+    ensures { λ r. ⌜ r ≡ dwordOf a b c d ⌝ }
+{
+    ((d as u32 * 256 + c as u32) * 256 + b as u32) * 256 + a as u32
+}
+
+pub fn read_register(part: &[u8], register: u8) -> u32
+    ensures { λ r. ⌜ r ≡ readRegister (now (part .entry)) register ⌝ }
+{
+    if register < 64 {
+        let at = register as usize;
+        return dword_of(
+            byte_at(part, at),
+            byte_at(part, at + 1),
+            byte_at(part, at + 2),
+            byte_at(part, at + 3),
+        );
+    }
+    0
+}
+
+fn write_byte(part: &mut [u8], n: Node, at: usize, on: bool, put: u8)
+    ensures { λ _. ⌜ now (part .exit) ≡ writeByte n (now (part .entry)) at on put ⌝ }
+{
+    if on {
+        if at < part.len() {
+            part[at] = crate::byte::written(
+                part[at],
+                put,
+                crate::mask::write_mask(n, at),
+                crate::mask::clear_mask(n, at),
+            );
+        }
+    }
+}
+
+pub fn write_register(part: &mut [u8], n: Node, register: u8, enables: u8, put: u32)
+    ensures { λ _. ⌜ now (part .exit) ≡ writeRegister n (now (part .entry)) register enables put ⌝ }
+{
+    if register < 64 {
+        let at = register as usize;
+        write_byte(part, n, at, enables % 2 == 1, (put % 256) as u8);
+        write_byte(
+            part,
+            n,
+            at + 1,
+            enables / 2 % 2 == 1,
+            (put / 256 % 256) as u8,
+        );
+        write_byte(
+            part,
+            n,
+            at + 2,
+            enables / 4 % 2 == 1,
+            (put / 65536 % 256) as u8,
+        );
+        write_byte(
+            part,
+            n,
+            at + 3,
+            enables / 8 % 2 == 1,
+            (put / 16777216 % 256) as u8,
+        );
+    }
+}

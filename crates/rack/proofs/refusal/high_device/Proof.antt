@@ -1,0 +1,17 @@
+use Rattle.rack.specs.Refusal.{highDevice}
+use borrow.Author.Needs.{needs}
+use Rattle.rack.proofs.refusal.high_device.Statement.{statement}
+use Rattle.rack.proofs.refusal.high_device.Tie as tie
+use Rattle.rack.proofs.refusal.high_device.Reads as reads
+use Rattle.rack.proofs.refusal.high_device.Lts as lts
+use Rattle.rack.proofs.table.node_at.Reads as node-at-reads
+
+node-at-requires : tie.Need-node-at-requires
+node-at-requires c κs = search needs
+
+returns : tie.Need-returns
+unfolding highDevice
+returns c = simp (c .before .node-at .ensures)
+
+pub high-device-spec : {M : Type 1} → statement M
+high-device-spec = tie.close (tie.spec node-at-requires returns)

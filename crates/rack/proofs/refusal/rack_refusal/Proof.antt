@@ -1,0 +1,21 @@
+use Rattle.rack.specs.Refusal.{rackRefusal}
+use mathlib.Core.Path.{ap, _∙_}
+use borrow.Author.Needs.{needs}
+use Rattle.rack.proofs.refusal.rack_refusal.Statement.{statement}
+use Rattle.rack.proofs.refusal.rack_refusal.Tie as tie
+use Rattle.rack.proofs.refusal.rack_refusal.Reads as reads
+use Rattle.rack.proofs.refusal.rack_refusal.Lts as lts
+use Rattle.rack.proofs.refusal.refusal_of.Reads as refusal-of-reads
+use Rattle.rack.proofs.table.table_of.Reads as table-of-reads
+
+table-of-requires : tie.Need-table-of-requires
+table-of-requires c κs = search needs
+
+refusal-of-requires : tie.Need-refusal-of-requires
+refusal-of-requires c κs = search needs
+
+returns : tie.Need-returns
+returns c = c .refusal-of .ensures ∙ ap rackRefusal (c .before .before .before .table-of .ensures)
+
+pub rack-refusal-spec : {M : Type 1} → statement M
+rack-refusal-spec = tie.close (tie.spec table-of-requires refusal-of-requires returns)

@@ -1,0 +1,32 @@
+use Rattle.rack.specs.Table.{placeAt}
+use borrow.Author.Tests.{lt-ltb, le-ltb}
+use borrow.Author.Needs.{needs}
+use Rattle.rack.proofs.table.place_at.Statement.{statement}
+use Rattle.rack.proofs.table.place_at.Tie as tie
+use Rattle.rack.proofs.table.place_at.Reads as reads
+use Rattle.rack.proofs.table.place_at.Lts as lts
+
+mul-result : tie.Need-mul-result
+mul-result c = search needs
+
+mul-result-2 : tie.Need-mul-result-2
+mul-result-2 c = search needs
+
+element-copy-out-result : tie.Need-element-copy-out-result
+element-copy-out-result c = search needs
+
+cast-result : tie.Need-cast-result
+cast-result c = search needs
+
+returns : tie.Need-returns
+unfolding placeAt
+returns c = simp (lt-ltb _ _ (c .before .if1 .taken))
+
+returns-2 : tie.Need-returns-2
+unfolding placeAt
+returns-2 c = simp (le-ltb _ _ (c .if1 .left))
+
+pub place-at-spec : {M : Type 1} → statement M
+place-at-spec =
+    tie.close
+    (tie.spec mul-result mul-result-2 element-copy-out-result cast-result returns returns-2)

@@ -1,0 +1,60 @@
+-- Laws of counting and searching below a number.
+-- Assumes nothing.
+use mathlib.Core.Path.{_≡_, refl, sym, ap, _∙_}
+use Prim.Native.Nat.{ℕ, zero, suc, _+_, _-_, _≤_, _<_}
+use native.Mathlib.Numerals.{add-one}
+use native.Mathlib.Omega.{arith}
+use mathlib.Core.Bool.{Bool, true, false, not, _||_, cond}
+use lib.Dec.{lit≤}
+use Rattle.rack.specs.Count.{countOf, someFrom}
+
+pub cond-le : (b : Bool) (x y n : ℕ) → x ≤ n → y ≤ n → cond b x y ≤ n
+cond-le true x y n hx hy = hx
+cond-le false x y n hx hy = hy
+
+pub count-zero : (f : ℕ → Bool) → countOf f 0 ≡ 0
+unfolding countOf
+count-zero f = refl
+
+pub count-step : (f : ℕ → Bool) (n : ℕ) → countOf f (n + 1) ≡ countOf f n + cond (f n) 1 0
+unfolding countOf
+count-step f n = rw add-one
+
+pub count-le : (f : ℕ → Bool) (n : ℕ) → countOf f n ≤ n
+unfolding countOf
+count-le f zero = omega arith
+count-le f (suc n) = omega (arith, count-le f n, cond-le (f n) 1 0 1 (lit≤ tt) (lit≤ tt))
+
+-- a test and its opposite count every number
+pub count-both : (f : ℕ → Bool) (n : ℕ) → countOf f n + countOf (λ i. not (f i)) n ≡ n
+unfolding countOf
+count-both f zero = refl
+count-both f (suc n) = omega (arith, count-both f n, one (f n))
+  where
+    one : (b : Bool) → cond b 1 0 + cond (not b) 1 0 ≡ 1
+    one true = refl
+    one false = refl
+
+-- a turn of a loop that counts
+pub count-again : (f : ℕ → Bool) (i : ℕ) {k v : ℕ} {b : Bool} → k ≡ countOf f i → b ≡ f i → v ≡ cond b 1 0
+    → k + v ≡ countOf f (i + 1)
+count-again f i ek eb ev = rw (count-step f i, ek, ev, eb)
+
+-- the turns of a loop that searches from j on
+pub left-suc : (j n : ℕ) → j < n → n - j ≡ suc (n - (j + 1))
+left-suc j n h = omega arith
+
+pub left-none : (j n : ℕ) → n ≤ j → n - j ≡ 0
+left-none j n h = omega arith
+
+pub some-found : (f : ℕ → Bool) (j n : ℕ) → j < n → f j ≡ true → someFrom f j (n - j) ≡ true
+unfolding someFrom
+some-found f j n h e = rw (left-suc j n h, e)
+
+pub some-next : (f : ℕ → Bool) (j n : ℕ) → j < n → f j ≡ false → someFrom f j (n - j) ≡ someFrom f (j + 1) (n - (j + 1))
+unfolding someFrom
+some-next f j n h e = rw (left-suc j n h, e)
+
+pub some-none : (f : ℕ → Bool) (j n : ℕ) → n ≤ j → someFrom f j (n - j) ≡ false
+unfolding someFrom
+some-none f j n h = rw (left-none j n h)

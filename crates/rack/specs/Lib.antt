@@ -1,0 +1,9 @@
+pub mod Node
+pub mod Count
+pub mod CountLaws
+pub mod Tree
+pub mod TreeLaws
+pub mod Placed
+pub mod Refusal
+pub mod RefusalLaws
+pub mod Table

@@ -1,0 +1,55 @@
+// A rack: the host's memory and a tree of bridges and devices, as document 01's rack records give it.
+ghost use mathlib.Core.Path.{_≡_};
+ghost use Rattle.rack.specs.Node.{kindNumber, isBridge};
+
+pub mod refusal;
+pub mod table;
+
+// What a node is; one number each, as the rack file has it (`kindNumber`).
+pub enum Kind {
+    Device,
+    Bridge,
+}
+
+// A base address region: kind 0 none, 1 I/O, 2 32-bit memory, 3 64-bit memory; it has 2 to the exponent bytes.
+pub struct Region {
+    pub kind: u8,
+    pub exponent: u8,
+}
+
+// A bridge or a device. The regions of a bridge are ignored.
+pub struct Node {
+    pub kind: Kind,
+    pub parent: u8,
+    pub device: u8,
+    pub vendor_id: u16,
+    pub device_id: u16,
+    pub regions: [Region; 3],
+}
+
+// A decoded rack: first and last address of host memory, and `count` nodes in file order.
+// It may hold anything; `refusal::rack_refusal` says whether it is a rack.
+pub struct Rack {
+    pub first: u64,
+    pub last: u64,
+    pub count: u8,
+    pub nodes: [Node; 96],
+}
+
+pub fn kind_number(k: Kind) -> u8
+    ensures { λ r. ⌜ r ≡ kindNumber k ⌝ }
+{
+    match k {
+        Kind::Device => 3,
+        Kind::Bridge => 2,
+    }
+}
+
+pub fn is_bridge(k: Kind) -> bool
+    ensures { λ r. ⌜ r ≡ isBridge k ⌝ }
+{
+    match k {
+        Kind::Device => false,
+        Kind::Bridge => true,
+    }
+}
