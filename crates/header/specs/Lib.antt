@@ -8,3 +8,4 @@ pub mod Disjoint
 pub mod Register
 pub mod Dword
 pub mod Sizing
+pub mod SizingLaws

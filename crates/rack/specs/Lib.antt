@@ -1,6 +1,8 @@
 pub mod Node
+pub mod Bools
 pub mod Count
 pub mod CountLaws
+pub mod Search
 pub mod Tree
 pub mod TreeLaws
 pub mod Placed

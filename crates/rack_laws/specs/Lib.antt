@@ -1,0 +1,7 @@
+pub mod Counts
+pub mod First
+pub mod Refusals
+pub mod Sound
+pub mod Places
+pub mod Depths
+pub mod Agents

@@ -1,0 +1,45 @@
+-- The turns of the loops that put reset values: one byte of a part more, one node of a rack more.
+-- Assumes nothing.
+use mathlib.Core.Path.{_≡_}
+use mathlib.Core.List.{List, [], _∷_, _++_, append-nil}
+use Prim.Native.Nat.{ℕ, _+_, _-_, _≤_, _<_}
+use native.Mathlib.Numerals.{add-one}
+use native.Mathlib.Omega.{arith}
+use lib.ListN.{length, take, set}
+use lib.Seq.{take-all, take-suc-set, append-snoc}
+use Rattle.rack.specs.declared.Node.{Node}
+use Rattle.rack.specs.Tree.{Tree}
+use Rattle.rack.specs.CountLaws.{left-suc, left-none}
+use Rattle.header.specs.Mask.{resetByte}
+use Rattle.registers.specs.Image.{Images, onNode}
+use Rattle.registers.specs.Reset.{resetFrom, resetPart, resetNodes}
+
+from-next : (n : Node) (at : ℕ) → at < 64 → resetFrom n at (64 - at) ≡ resetByte n at ∷ resetFrom n (at + 1) (64 - (at + 1))
+unfolding resetFrom
+from-next n at h = rw (left-suc at 64 h)
+
+-- the bytes below `at` are at reset
+pub bytes-next : (n : Node) (l : List ℕ) (at : ℕ) {v : ℕ} → length l ≡ 64 → at < 64 → v ≡ resetByte n at
+    → take at l ++ resetFrom n at (64 - at) ≡ resetPart n
+    → take (at + 1) (set l at v) ++ resetFrom n (at + 1) (64 - (at + 1)) ≡ resetPart n
+bytes-next n l at {v} el h ev e =
+    let inside : at < length l = omega arith in
+    let more : take (at + 1) (set l at v) ≡ take at l ++ (v ∷ []) = rw add-one (take-suc-set l at v inside) in
+    rw (more, append-snoc, ev, ← from-next n at h) e
+
+pub bytes-none : (n : Node) (l : List ℕ) (at : ℕ) → length l ≡ 64 → 64 ≤ at
+    → take at l ++ resetFrom n at (64 - at) ≡ resetPart n → l ≡ resetPart n
+unfolding resetFrom
+bytes-none n l at el h e =
+    let whole : length l ≤ at = omega arith in
+    rw (left-none at 64 h, take-all at l whole, append-nil) at e
+
+-- the nodes below i are at reset
+pub nodes-next : (t : Tree) (im : Images) (i n : ℕ) → i < n
+    → resetNodes t im i (n - i) ≡ resetNodes t (onNode t im i (λ part. resetPart (t .node i))) (i + 1) (n - (i + 1))
+unfolding resetNodes
+nodes-next t im i n h = rw (left-suc i n h)
+
+pub nodes-none : (t : Tree) (im : Images) (i n : ℕ) → n ≤ i → resetNodes t im i (n - i) ≡ im
+unfolding resetNodes
+nodes-none t im i n h = rw (left-none i n h)

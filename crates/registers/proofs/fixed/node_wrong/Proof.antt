@@ -1,0 +1,19 @@
+use borrow.Author.Needs.{needs}
+use Rattle.registers.proofs.fixed.node_wrong.Statement.{statement}
+use Rattle.registers.proofs.fixed.node_wrong.Tie as tie
+
+node-at-requires : tie.Need-node-at-requires
+node-at-requires c κs = search needs
+
+view-of-requires : tie.Need-view-of-requires
+view-of-requires c κs = search needs
+
+part-wrong-requires : tie.Need-part-wrong-requires
+part-wrong-requires c κs = search needs
+
+returns : tie.Need-returns
+returns c = rw (← c .before .view-of .ensures, ← c .before .before .node-at .ensures) (c .part-wrong .ensures)
+
+pub node-wrong-spec : {M : Type 1} → statement M
+node-wrong-spec =
+    tie.close (tie.spec node-at-requires view-of-requires part-wrong-requires returns)

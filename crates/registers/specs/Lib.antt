@@ -1,0 +1,4 @@
+pub mod Image
+pub mod Fixed
+pub mod Reset
+pub mod Sizing

@@ -1,0 +1,76 @@
+// Refusals 11 and 12: the lengths of the images, and bits that no write can have changed.
+ghost use mathlib.Core.Path.{_≡_};
+ghost use Rattle.rack.specs.Table.{treeOf};
+ghost use Rattle.registers.specs.Image.{images};
+ghost use Rattle.registers.specs.Fixed.{lengthsWrong, valueWrong, partWrong, nodeWrong, fixedWrong, imageRefusal};
+use rack::Node;
+
+// Whether a fixed bit of the byte differs from its reset value.
+fn value_wrong(n: Node, at: usize, value: u8) -> bool
+    ensures { λ r. ⌜ r ≡ valueWrong n at value ⌝ }
+{
+    let fixed = header::mask::fixed_mask(n, at);
+    (value & fixed) != (header::mask::reset_byte(n, at) & fixed)
+}
+
+fn part_wrong(n: Node, part: &[u8]) -> bool
+    ensures { λ r. ⌜ r ≡ partWrong n (now (part .entry)) ⌝ }
+{
+    let mut at: usize = 0;
+    while at < 64 {
+        if value_wrong(n, at, header::register::byte_at(part, at)) {
+            return true;
+        }
+        at += 1;
+    }
+    false
+}
+
+fn node_wrong<'a>(
+    words: &[u64; 192],
+    count: u8,
+    bridges: &'a [u8],
+    devices: &'a [u8],
+    i: u8,
+) -> bool
+    ensures { λ r. ⌜ r ≡ nodeWrong (treeOf count (now (words .entry))) (images (now (bridges .entry)) (now (devices .entry))) i ⌝ }
+{
+    part_wrong(
+        rack::table::node_at(words, i as usize),
+        crate::image::view_of(words, count, bridges, devices, i),
+    )
+}
+
+fn fixed_wrong<'a>(words: &[u64; 192], count: u8, bridges: &'a [u8], devices: &'a [u8]) -> bool
+    ensures { λ r. ⌜ r ≡ fixedWrong (treeOf count (now (words .entry))) (images (now (bridges .entry)) (now (devices .entry))) ⌝ }
+{
+    let mut i: u8 = 0;
+    while i < count {
+        if node_wrong(words, count, bridges, devices, i) {
+            return true;
+        }
+        i += 1;
+    }
+    false
+}
+
+fn lengths_wrong<'a>(words: &[u64; 192], count: u8, bridges: &'a [u8], devices: &'a [u8]) -> bool
+    ensures { λ r. ⌜ r ≡ lengthsWrong (treeOf count (now (words .entry))) (images (now (bridges .entry)) (now (devices .entry))) ⌝ }
+{
+    let b = rack::table::bridges_below(words, count as usize);
+    let d = count as usize - b;
+    !((bridges.len() == 64 * b) & (devices.len() == 64 * d))
+}
+
+// The refusal of two images, 0 where there is none.
+pub fn image_refusal<'a>(words: &[u64; 192], count: u8, bridges: &'a [u8], devices: &'a [u8]) -> u8
+    ensures { λ r. ⌜ r ≡ imageRefusal (treeOf count (now (words .entry))) (images (now (bridges .entry)) (now (devices .entry))) ⌝ }
+{
+    if lengths_wrong(words, count, bridges, devices) {
+        return 11;
+    }
+    if fixed_wrong(words, count, bridges, devices) {
+        return 12;
+    }
+    0
+}

@@ -1,0 +1,9 @@
+pub mod Parts
+pub mod Images
+pub mod Kept
+pub mod Registers
+pub mod Status
+pub mod Accepted
+pub mod Resets
+pub mod Exponents
+pub mod Sizes

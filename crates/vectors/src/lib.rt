@@ -1,0 +1,1 @@
+// The worked examples of document 01 as theorems; no code.
