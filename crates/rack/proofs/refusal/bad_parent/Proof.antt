@@ -2,10 +2,6 @@ use Rattle.rack.specs.Refusal.{badParent}
 use borrow.Author.Needs.{needs}
 use Rattle.rack.proofs.refusal.bad_parent.Statement.{statement}
 use Rattle.rack.proofs.refusal.bad_parent.Tie as tie
-use Rattle.rack.proofs.refusal.bad_parent.Reads as reads
-use Rattle.rack.proofs.refusal.bad_parent.Lts as lts
-use Rattle.rack.proofs.is_bridge.Reads as is-bridge-reads
-use Rattle.rack.proofs.table.node_at.Reads as node-at-reads
 
 node-at-requires : tie.Need-node-at-requires
 node-at-requires c κs = search needs

@@ -2,11 +2,6 @@ use Rattle.rack.specs.Refusal.{badRegion}
 use borrow.Author.Needs.{needs}
 use Rattle.rack.proofs.refusal.bad_region.Statement.{statement}
 use Rattle.rack.proofs.refusal.bad_region.Tie as tie
-use Rattle.rack.proofs.refusal.bad_region.Reads as reads
-use Rattle.rack.proofs.refusal.bad_region.Lts as lts
-use Rattle.rack.proofs.is_bridge.Reads as is-bridge-reads
-use Rattle.rack.proofs.refusal.regions_range.Reads as regions-range-reads
-use Rattle.rack.proofs.table.node_at.Reads as node-at-reads
 
 node-at-requires : tie.Need-node-at-requires
 node-at-requires c κs = search needs

@@ -2,9 +2,6 @@ use Rattle.rack.specs.Refusal.{highDevice}
 use borrow.Author.Needs.{needs}
 use Rattle.rack.proofs.refusal.high_device.Statement.{statement}
 use Rattle.rack.proofs.refusal.high_device.Tie as tie
-use Rattle.rack.proofs.refusal.high_device.Reads as reads
-use Rattle.rack.proofs.refusal.high_device.Lts as lts
-use Rattle.rack.proofs.table.node_at.Reads as node-at-reads
 
 node-at-requires : tie.Need-node-at-requires
 node-at-requires c κs = search needs

@@ -2,13 +2,6 @@ use Rattle.rack.specs.Refusal.{nodeRefusal}
 use borrow.Author.Needs.{needs}
 use Rattle.rack.proofs.refusal.node_refusal.Statement.{statement}
 use Rattle.rack.proofs.refusal.node_refusal.Tie as tie
-use Rattle.rack.proofs.refusal.node_refusal.Reads as reads
-use Rattle.rack.proofs.refusal.node_refusal.Lts as lts
-use Rattle.rack.proofs.refusal.bad_parent.Reads as bad-parent-reads
-use Rattle.rack.proofs.refusal.bad_region.Reads as bad-region-reads
-use Rattle.rack.proofs.refusal.high_device.Reads as high-device-reads
-use Rattle.rack.proofs.refusal.taken_device.Reads as taken-device-reads
-use Rattle.rack.proofs.refusal.too_many.Reads as too-many-reads
 
 too-many-requires : tie.Need-too-many-requires
 too-many-requires c κs = search needs

@@ -3,10 +3,6 @@ use mathlib.Core.Path.{ap, _∙_}
 use borrow.Author.Needs.{needs}
 use Rattle.rack.proofs.refusal.rack_refusal.Statement.{statement}
 use Rattle.rack.proofs.refusal.rack_refusal.Tie as tie
-use Rattle.rack.proofs.refusal.rack_refusal.Reads as reads
-use Rattle.rack.proofs.refusal.rack_refusal.Lts as lts
-use Rattle.rack.proofs.refusal.refusal_of.Reads as refusal-of-reads
-use Rattle.rack.proofs.table.table_of.Reads as table-of-reads
 
 table-of-requires : tie.Need-table-of-requires
 table-of-requires c κs = search needs

@@ -3,13 +3,10 @@ use Rattle.rack.specs.Refusal.{refusalFrom}
 use Rattle.rack.specs.Table.{nodeAt}
 use borrow.Author.Needs.{needs}
 use native.Mathlib.Omega.{arith}
-use Prim.Native.Nat.{ℕ, _-_}
+use Prim.Native.Nat.{_-_}
 use mathlib.Core.Path.{_≡_, sym, ap, _∙_}
 use Rattle.rack.proofs.refusal.refusal_of.Statement.{statement}
 use Rattle.rack.proofs.refusal.refusal_of.Tie as tie
-use Rattle.rack.proofs.refusal.refusal_of.Reads as reads
-use Rattle.rack.proofs.refusal.refusal_of.Lts as lts
-use Rattle.rack.proofs.refusal.node_refusal.Reads as node-refusal-reads
 
 abbrev Inv-loop : tie.InvT-loop
 Inv-loop words count end i₀ i = refusalFrom (nodeAt words) 0 count ≡ refusalFrom (nodeAt words) i (count - i)

@@ -1,9 +1,6 @@
 use borrow.Author.Needs.{needs}
 use Rattle.rack.proofs.refusal.regions_range.Statement.{statement}
 use Rattle.rack.proofs.refusal.regions_range.Tie as tie
-use Rattle.rack.proofs.refusal.regions_range.Reads as reads
-use Rattle.rack.proofs.refusal.regions_range.Lts as lts
-use Rattle.rack.proofs.refusal.region_range.Reads as region-range-reads
 
 element-copy-out-r0 : tie.Need-element-copy-out-r0
 element-copy-out-r0 c = search needs

@@ -4,14 +4,10 @@ use Rattle.rack.specs.CountLaws.{some-found, some-next, some-none}
 use Rattle.rack.specs.Count.{someFrom}
 use borrow.Author.Needs.{needs}
 use native.Mathlib.Omega.{arith}
-use Prim.Native.Nat.{ℕ, _-_}
+use Prim.Native.Nat.{_-_}
 use mathlib.Core.Path.{_≡_, sym, ap, ap₂, _∙_}
 use Rattle.rack.proofs.refusal.taken_device.Statement.{statement}
 use Rattle.rack.proofs.refusal.taken_device.Tie as tie
-use Rattle.rack.proofs.refusal.taken_device.Reads as reads
-use Rattle.rack.proofs.refusal.taken_device.Lts as lts
-use Rattle.rack.proofs.refusal.same_slot.Reads as same-slot-reads
-use Rattle.rack.proofs.table.node_at.Reads as node-at-reads
 
 abbrev Inv-loop : tie.InvT-loop
 Inv-loop words i n j₀ j = someFrom (λ k. sameSlot (nodeAt words k) (nodeAt words i)) 0 i ≡ someFrom (λ k. sameSlot (nodeAt words k) (nodeAt words i)) j (i - j)

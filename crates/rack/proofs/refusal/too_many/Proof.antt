@@ -5,11 +5,6 @@ use native.Mathlib.Omega.{arith}
 use borrow.Author.Needs.{needs}
 use Rattle.rack.proofs.refusal.too_many.Statement.{statement}
 use Rattle.rack.proofs.refusal.too_many.Tie as tie
-use Rattle.rack.proofs.refusal.too_many.Reads as reads
-use Rattle.rack.proofs.refusal.too_many.Lts as lts
-use Rattle.rack.proofs.is_bridge.Reads as is-bridge-reads
-use Rattle.rack.proofs.table.bridges_below.Reads as bridges-below-reads
-use Rattle.rack.proofs.table.node_at.Reads as node-at-reads
 
 bridges-below-requires : tie.Need-bridges-below-requires
 bridges-below-requires c κs = search needs

@@ -3,7 +3,7 @@ use mathlib.Core.Path.{_≡_, sym, ap, _∙_}
 use Rattle.rack.specs.Table.{nodeAt}
 use Rattle.rack.specs.Tree.{bridgesBelow}
 use Rattle.rack.specs.Node.{isBridge}
-use Rattle.rack.specs.CountLaws.{count-zero, count-step, count-le, cond-le}
+use Rattle.rack.specs.CountLaws.{count-zero, count-le, cond-le}
 use borrow.Author.Needs.{needs}
 use lib.Dec.{lit≤}
 use native.Mathlib.Omega.{arith}
@@ -11,11 +11,6 @@ use Prim.Native.Nat.{_≤_, _-_}
 use mathlib.Core.Path.{_≡_}
 use Rattle.rack.proofs.table.bridges_below.Statement.{statement}
 use Rattle.rack.proofs.table.bridges_below.Tie as tie
-use Rattle.rack.proofs.table.bridges_below.Reads as reads
-use Rattle.rack.proofs.table.bridges_below.Lts as lts
-use Rattle.rack.proofs.is_bridge.Reads as is-bridge-reads
-use Rattle.rack.proofs.table.node_at.Reads as node-at-reads
-use Rattle.rack.proofs.table.pick.Reads as pick-reads
 
 abbrev Inv-loop : tie.InvT-loop
 Inv-loop words n found₀ i₀ found i = (i ≤ n) × (found ≡ bridgesBelow (nodeAt words) i)

@@ -3,9 +3,6 @@ use borrow.Author.Tests.{lt-ltb, le-ltb}
 use borrow.Author.Needs.{needs}
 use Rattle.rack.proofs.table.node_at.Statement.{statement}
 use Rattle.rack.proofs.table.node_at.Tie as tie
-use Rattle.rack.proofs.table.node_at.Reads as reads
-use Rattle.rack.proofs.table.node_at.Lts as lts
-use Rattle.rack.proofs.table.node_from.Reads as node-from-reads
 
 mul-node-from : tie.Need-mul-node-from
 mul-node-from c = search needs

@@ -1,9 +1,6 @@
 use borrow.Author.Needs.{needs}
 use Rattle.rack.proofs.table.node_from.Statement.{statement}
 use Rattle.rack.proofs.table.node_from.Tie as tie
-use Rattle.rack.proofs.table.node_from.Reads as reads
-use Rattle.rack.proofs.table.node_from.Lts as lts
-use Rattle.rack.proofs.table.kind_from.Reads as kind-from-reads
 
 cast-t8 : tie.Need-cast-t8
 cast-t8 c = search needs

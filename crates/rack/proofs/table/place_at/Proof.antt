@@ -3,8 +3,6 @@ use borrow.Author.Tests.{lt-ltb, le-ltb}
 use borrow.Author.Needs.{needs}
 use Rattle.rack.proofs.table.place_at.Statement.{statement}
 use Rattle.rack.proofs.table.place_at.Tie as tie
-use Rattle.rack.proofs.table.place_at.Reads as reads
-use Rattle.rack.proofs.table.place_at.Lts as lts
 
 mul-result : tie.Need-mul-result
 mul-result c = search needs

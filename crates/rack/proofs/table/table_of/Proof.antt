@@ -10,12 +10,6 @@ use borrow.Author.Needs.{needs}
 use Prim.Native.Nat.{_-_}
 use Rattle.rack.proofs.table.table_of.Statement.{statement}
 use Rattle.rack.proofs.table.table_of.Tie as tie
-use Rattle.rack.proofs.table.table_of.Reads as reads
-use Rattle.rack.proofs.table.table_of.Lts as lts
-use Rattle.rack.proofs.is_bridge.Reads as is-bridge-reads
-use Rattle.rack.proofs.table.high_word.Reads as high-word-reads
-use Rattle.rack.proofs.table.low_word.Reads as low-word-reads
-use Rattle.rack.proofs.table.pick.Reads as pick-reads
 
 abbrev Inv-loop : tie.InvT-loop
 Inv-loop rack words₀ bridges₀ devices₀ i₀ words bridges devices i = Filled rack words bridges devices i

@@ -1,0 +1,21 @@
+use Rattle.claims.specs.Claim.{regionsUntil}
+use borrow.Author.Needs.{needs}
+use Rattle.claims.proofs.DeviceClaims.regions_until.Statement.{statement}
+use Rattle.claims.proofs.DeviceClaims.regions_until.Tie as tie
+
+cut-range-requires : tie.Need-cut-range-requires
+cut-range-requires c κs = search needs
+
+cut-range-requires-2 : tie.Need-cut-range-requires-2
+cut-range-requires-2 c κs = search needs
+
+cut-range-requires-3 : tie.Need-cut-range-requires-3
+cut-range-requires-3 c κs = search needs
+
+returns : tie.Need-returns
+unfolding regionsUntil
+returns c = simp (c .cut-range3 .ensures, c .before .cut-range2 .ensures, c .before .before .cut-range .ensures)
+
+pub regions-until-spec : {M : Type 1} → statement M
+regions-until-spec =
+    tie.close (tie.spec cut-range-requires cut-range-requires-2 cut-range-requires-3 returns)

@@ -1,0 +1,63 @@
+-- An agent of a bus, decoded from its registers: all that its claims rest on.
+-- Assumes nothing: these are definitions.
+use Prim.Native.Nat.{ℕ}
+use mathlib.Core.Bool.{Bool, cond}
+use mathlib.Core.List.{List}
+use lib.Dec.{eqb}
+use lib.ListN.{getD}
+use Rattle.rack.specs.declared.Node.{Node}
+use Rattle.rack.specs.Node.{isBridge, regionIn}
+use Rattle.rack.specs.Tree.{Tree, host}
+use Rattle.registers.specs.Image.{Images, view}
+use Rattle.window.specs.declared.Range.{Range}
+use Rattle.window.specs.declared.Area.{Area}
+use Rattle.window.specs.Range.{range}
+use Rattle.window.specs.Window.{bitAt, windowsOf}
+use Rattle.window.specs.Area.{areaOf}
+use Rattle.claims.specs.declared.BridgeClaims.{BridgeClaims}
+use Rattle.claims.specs.declared.DeviceClaims.{DeviceClaims}
+use Rattle.claims.specs.declared.Agent.{Agent}
+use Rattle.claims.specs.declared.Agent.the-variants.{Primary, Secondary, Device, Host}
+
+-- registers that are read here, by their names in linux/pci_regs.h
+abbrev pub COMMAND : ℕ
+COMMAND = 0x04
+
+abbrev pub SECONDARY-BUS : ℕ
+SECONDARY-BUS = 0x19
+
+abbrev pub SUBORDINATE-BUS : ℕ
+SUBORDINATE-BUS = 0x1a
+
+-- 01: 'command bit 0 (I/O) or 1 (memory)', 'if bit 2 is set', 'secondary ≤ bus ≤ subordinate'
+unfoldable pub bridgeOf : List ℕ → BridgeClaims
+bridgeOf part =
+    record {
+      io = bitAt part COMMAND 0;
+      memory = bitAt part COMMAND 1;
+      master = bitAt part COMMAND 2;
+      windows = windowsOf part;
+      buses = range (getD part SECONDARY-BUS 0) (getD part SUBORDINATE-BUS 0);
+    }
+
+abbrev pub areaIn : Node → List ℕ → ℕ → Area
+areaIn n part r = areaOf part (regionIn n r .kind) (regionIn n r .exponent) r
+
+-- 01: 'A device claims its regions under its bits 0 and 1'
+unfoldable pub deviceOf : Node → List ℕ → DeviceClaims
+deviceOf n part =
+    record {
+      io = bitAt part COMMAND 0;
+      memory = bitAt part COMMAND 1;
+      first = areaIn n part 0;
+      second = areaIn n part 1;
+      third = areaIn n part 2;
+    }
+
+-- agent g of a bus: the host, the bridge that holds the bus, or a node on it. h is the host's memory
+unfoldable pub agentOf : Tree → Range → Images → ℕ → ℕ → Agent
+agentOf t h im bus g =
+    cond (eqb g host) (Host h)
+    (cond (isBridge (t .node g .kind))
+    (cond (eqb g bus) (Secondary (bridgeOf (view t im g))) (Primary (bridgeOf (view t im g))))
+    (Device (deviceOf (t .node g) (view t im g))))

@@ -1,0 +1,1 @@
+// Theorems about the definitions of `window` and `claims`; no code.

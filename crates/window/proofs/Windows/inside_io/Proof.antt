@@ -1,0 +1,17 @@
+use borrow.Author.Needs.{needs}
+use Rattle.window.specs.Inside.{insideIo}
+use Rattle.window.proofs.Windows.inside_io.Statement.{statement}
+use Rattle.window.proofs.Windows.inside_io.Tie as tie
+
+in-io-requires : tie.Need-in-io-requires
+in-io-requires c κs = search needs
+
+in-vga-io-requires : tie.Need-in-vga-io-requires
+in-vga-io-requires c κs = search needs
+
+returns : tie.Need-returns
+unfolding insideIo
+returns c = rw (c .in-vga-io .ensures, c .before .in-io .ensures)
+
+pub inside-io-spec : {M : Type 1} → statement M
+inside-io-spec = tie.close (tie.spec in-io-requires in-vga-io-requires returns)

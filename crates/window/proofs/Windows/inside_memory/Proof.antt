@@ -1,0 +1,21 @@
+use borrow.Author.Needs.{needs}
+use Rattle.window.specs.Inside.{insideMemory}
+use Rattle.window.proofs.Windows.inside_memory.Statement.{statement}
+use Rattle.window.proofs.Windows.inside_memory.Tie as tie
+
+in-memory-requires : tie.Need-in-memory-requires
+in-memory-requires c κs = search needs
+
+in-prefetchable-requires : tie.Need-in-prefetchable-requires
+in-prefetchable-requires c κs = search needs
+
+in-vga-memory-requires : tie.Need-in-vga-memory-requires
+in-vga-memory-requires c κs = search needs
+
+returns : tie.Need-returns
+unfolding insideMemory
+returns c = rw (c .in-vga-memory .ensures, c .before .in-prefetchable .ensures, c .before .before .in-memory .ensures)
+
+pub inside-memory-spec : {M : Type 1} → statement M
+inside-memory-spec =
+    tie.close (tie.spec in-memory-requires in-prefetchable-requires in-vga-memory-requires returns)

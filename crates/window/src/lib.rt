@@ -1,0 +1,27 @@
+// Decoded windows and regions: what a bridge's windows and a device's regions hold, and how far upwards the answer stays the same.
+pub mod cut;
+pub mod decode;
+pub mod inside;
+pub mod region;
+
+// Addresses from first to last, both in; none where first is above last.
+pub struct Range {
+    pub first: u64,
+    pub last: u64,
+}
+
+// The windows of a bridge.
+pub struct Windows {
+    pub memory: Range,
+    pub prefetchable: Range,
+    pub io: Range,
+    pub isa: bool,
+    pub vga: bool,
+    pub vga16: bool,
+}
+
+// The addresses of a device's region, in the I/O or in the memory space.
+pub struct Area {
+    pub io: bool,
+    pub range: Range,
+}
