@@ -56,7 +56,8 @@ pub fn area_in(n: Node, part: &[u8], r: u8) -> Area
     window::region::area_of(part, region.kind, region.exponent, r)
 }
 
-fn device_of(n: Node, part: &[u8]) -> DeviceClaims
+// A device's claims from its registers.
+pub fn device_of(n: Node, part: &[u8]) -> DeviceClaims
     ensures { λ r. ⌜ r ≡ deviceOf n (now (part .entry)) ⌝ }
 {
     let command = byte_at(part, COMMAND);

@@ -5,6 +5,7 @@ pub mod CountLaws
 pub mod Search
 pub mod Tree
 pub mod TreeLaws
+pub mod DepthLaws
 pub mod Placed
 pub mod Refusal
 pub mod RefusalLaws

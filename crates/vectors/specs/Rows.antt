@@ -16,6 +16,18 @@ use Rattle.header.specs.Mask.{writeMask, clearMask, regionWrite, regionReset, r
 use Rattle.header.specs.Register.{readRegister, writeByte, writeDword, writeRegister}
 use Rattle.header.specs.Sizing.{readBack, sizePart}
 use Rattle.registers.specs.Reset.{resetFrom, resetPart}
+use Rattle.rack.specs.Tree.{Tree, host, nodesFrom}
+use Rattle.registers.specs.Image.{images, partOf, view}
+use Rattle.window.specs.Range.{empty}
+use Rattle.claims.specs.declared.Space.the-variants.{Configuration}
+use Rattle.claims.specs.Agent.{bridgeOf, agentOf}
+use Rattle.claims.specs.Claim.{primaryClaims, hostClaims, claimsOf}
+use Rattle.claims.specs.Claimants.{claimantsIn}
+use Rattle.routes.specs.declared.Access.{Access}
+use Rattle.routes.specs.declared.Sight.{Sight}
+use Rattle.routes.specs.declared.Sight.the-variants.{Ends, Crosses}
+use Rattle.routes.specs.Look.{owned, claimed, look}
+use Rattle.routes.specs.Cross.{turnsType0}
 use Rattle.window.specs.Window.{windowsOf}
 use Rattle.window.specs.Inside.{inMemory, inPrefetchable, insideIo}
 
@@ -35,6 +47,8 @@ pub data Row : Type 0 where
   sizes : ℕ → ℕ → ℕ → ℕ → Row
   -- a window of a bridge; registers written over a bridge at reset; addresses that are in it, and addresses that are not
   holds-of : Window → List Poke → List ℕ → List ℕ → Row
+  -- registers written over a bridge on the root bus; a bus number that it takes across as Type 1
+  crosses : List Poke → ℕ → Row
   -- a header kind; a status, what is written to it, and the status then
   clears : Kind → ℕ → ℕ → ℕ → Row
 
@@ -68,6 +82,23 @@ abbrev pub each : Window → List ℕ → Bool → List ℕ → Bool
 each w part want [] = true
 each w part want (a ∷ rest) = cond want (answer w part a) (not (answer w part a)) && each w part want rest
 
+-- a rack of that bridge alone, and a configuration read of a bus number
+abbrev pub alone : Tree
+alone = record { count = 1; node = λ i. node Bridge noRegion; place = λ i. 0 }
+
+abbrev pub reading : ℕ → Access
+reading bus =
+    record { space = Configuration; write = false; address = bus; device = 0; register = 0; enables = 0; «data» = 0 }
+
+abbrev pub takenBy : Sight → ℕ → Bool
+takenBy (Ends e) g = false
+takenBy (Crosses k) g = eqb k g
+
+abbrev pub asType1 : List ℕ → ℕ → Bool
+asType1 part bus =
+    takenBy (look alone empty (images part []) (reading bus) host host false .sight) 0
+    && not (turnsType0 alone (images part []) (reading bus) host 0)
+
 -- a node at reset, but for its status
 abbrev pub withStatus : Node → ℕ → List ℕ
 withStatus n status = set (set (resetPart n) STATUS (status % 256)) (STATUS + 1) (status / 256)
@@ -81,6 +112,7 @@ holds (sizes kind e seen size) =
     eqb (readBack (device kind e) (resetPart (device kind e)) BASE-ADDRESS) seen
     && eqb (sizePart (device kind e) (resetPart (device kind e)) kind BASE-ADDRESS) size
 holds (holds-of w ps ins outs) = each w (poked ps) true ins && each w (poked ps) false outs
+holds (crosses ps bus) = asType1 (poked ps) bus
 holds (clears k status put after) = eqb (statusAfter (node k noRegion) status put) after
 
 abbrev pub all : List Row → Bool
@@ -110,9 +142,10 @@ rows =
     ∷ sizes 2 12 0xfffff000 0x1000  -- 8: '32-bit, e = 12: read back FFFFF000h, size 1000h'
     ∷ clears Bridge 0xa000 0x2000 0x8000  -- 9: 'Status A000h, written 2000h: 8000h', of a bridge
     ∷ clears Device 0xa000 0x2000 0x8000  -- 9, of a device
+    ∷ crosses (byte 0x19 0x00 ∷ byte 0x1a 0x05 ∷ []) 3  -- 10: 'Secondary 0, subordinate 5: bus 3 crosses as Type 1'
     ∷ []
 
 -- every row holds
 pub table : all rows ≡ true
-unfolding resetFrom resetByte regionReset regionWrite writeMask clearMask readRegister writeByte writeDword writeRegister readBack sizePart windowsOf insideIo
+unfolding resetFrom resetByte regionReset regionWrite writeMask clearMask readRegister writeByte writeDword writeRegister readBack sizePart windowsOf insideIo nodesFrom partOf view bridgeOf agentOf primaryClaims hostClaims claimsOf claimantsIn owned claimed look turnsType0
 table = refl

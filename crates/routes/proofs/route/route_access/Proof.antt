@@ -1,0 +1,67 @@
+use Rattle.routes.specs.Route.{access}
+use borrow.Author.Tests.{eq-eqb, ne-eqb}
+use borrow.Author.Needs.{needs}
+use Rattle.routes.proofs.route.route_access.Statement.{statement}
+use Rattle.routes.proofs.route.route_access.Tie as tie
+
+route-from-requires : tie.Need-route-from-requires
+route-from-requires c κs = search needs
+
+same-length : tie.Need-same-length
+same-length c = search needs
+
+same-length-2 : tie.Need-same-length-2
+same-length-2 c = search needs
+
+returns : tie.Need-returns
+unfolding access
+returns c =
+    let s = c .before .before .before .before in
+    simp (eq-eqb _ _ (s .before .before .before .if1 .taken)) (s .route-from .ensures)
+
+byte-of-requires : tie.Need-byte-of-requires
+byte-of-requires c κs = search needs
+
+route-device-requires : tie.Need-route-device-requires
+route-device-requires c κs = search needs
+
+same-length-3 : tie.Need-same-length-3
+same-length-3 c = search needs
+
+same-length-4 : tie.Need-same-length-4
+same-length-4 c = search needs
+
+returns-2 : tie.Need-returns-2
+unfolding access
+returns-2 c =
+    let s = c .before .before .before .before in
+    let f = s .before .before .before .before in
+    simp (ne-eqb _ _ (f .before .before .before .if1 .left), ← f .byte-of .ensures, eq-eqb _ _ (s .before .before .before .if2 .taken)) (s .route-device .ensures)
+
+same-length-5 : tie.Need-same-length-5
+same-length-5 c = search needs
+
+same-length-6 : tie.Need-same-length-6
+same-length-6 c = search needs
+
+returns-3 : tie.Need-returns-3
+unfolding access
+returns-3 c =
+    simp (ne-eqb _ _ (c .before .before .before .before .if1 .left), ← c .before .byte-of .ensures, ne-eqb _ _ (c .if2 .left))
+
+pub route-access-spec : {M : Type 1} → statement M
+route-access-spec =
+    tie.close
+    (tie.spec
+    route-from-requires
+    same-length
+    same-length-2
+    returns
+    byte-of-requires
+    route-device-requires
+    same-length-3
+    same-length-4
+    returns-2
+    same-length-5
+    same-length-6
+    returns-3)

@@ -1,0 +1,5 @@
+pub mod Ending
+pub mod Look
+pub mod Cross
+pub mod Route
+pub mod StepLaws

@@ -1,0 +1,103 @@
+-- Which bridge takes an access on from a bus: an agent of the bus that does not drive it. Until then no image has changed.
+-- Assumes nothing.
+use mathlib.Core.Path.{_≡_, refl}
+use mathlib.Core.Bool.{Bool, true, false, not, _&&_, false≢true}
+use mathlib.Core.List.{List, [], _∷_}
+use mathlib.Core.Logic.{_⊎_, inl, inr}
+use Prim.Native.Nat.{ℕ, _<_}
+use native.Mathlib.Omega.{arith}
+use lib.Dec.{eqb}
+use borrow.Author.Tests.{eq-eqb, eqb-false}
+use Rattle.rack.specs.Node.{isBridge}
+use Rattle.rack.specs.Bools.{tested, both}
+use Rattle.rack.specs.Tree.{Tree, host, parentOf, agents}
+use Rattle.rack_laws.specs.Agents.{All, all-on}
+use Rattle.registers.specs.Image.{Images}
+use Rattle.window.specs.declared.Range.{Range}
+use Rattle.claims.specs.Claim.{claims}
+use Rattle.claims.specs.Claimants.{claimantsIn, claimants, firstTwo}
+use Rattle.routes.specs.declared.Access.{Access}
+use Rattle.routes.specs.declared.Sight.{Sight}
+use Rattle.routes.specs.declared.Sight.the-variants.{Ends, Crosses}
+use Rattle.routes.specs.Ending.{Out}
+use Rattle.routes.specs.Look.{unclaimed, owned, claimed, served, direct, target, look}
+use Rattle.routes.specs.Route.{follow}
+
+-- an agent of a bus: its holder, or a node on it
+abbrev pub OnBus : Tree → ℕ → ℕ → Type 0
+OnBus t bus g = (g ≡ bus) ⊎ ((g < t .count) × (parentOf t g ≡ bus))
+
+-- bridge g takes an access on from a bus
+pub record Taken (t : Tree) (bus driver g : ℕ) : Type 0 where
+  pub bridge : isBridge (t .node g .kind) ≡ true
+  pub node : g ≡ host → ⊥
+  pub other : g ≡ driver → ⊥
+  pub agent : OnBus t bus g
+
+-- what is seen on a bus: an ending, or such a bridge and the images as they were
+abbrev pub Follows : Tree → ℕ → ℕ → Images → Sight → Images → Type 0
+Follows t bus driver im (Ends e) v = Unit {0}
+Follows t bus driver im (Crosses g) v = Taken t bus driver g × (v ≡ im)
+
+-- what holds of agents holds of those that claim, and none of these drives
+claiming : (P : ℕ → Type 0) (claim : ℕ → Bool) (driver : ℕ) (l : List ℕ) → All P l
+    → All (λ g. P g × (g ≡ driver → ⊥)) (claimantsIn claim driver l)
+unfolding All claimantsIn
+claiming P claim driver [] a = tt
+claiming P claim driver (g ∷ gs) a =
+    tested (claim g && not (eqb g driver))
+    (λ q. rw q ((a .0, λ e. off (eqb g driver) (both (claim g) _ q .1) (eq-eqb g driver e)), claiming P claim driver gs (a .1)))
+    (λ q. rw q (claiming P claim driver gs (a .1)))
+  where
+    off : (b : Bool) → not b ≡ true → b ≡ true → ⊥
+    off true n e = false≢true n
+    off false n e = false≢true e
+
+module _ (t : Tree) (bus : ℕ) where
+  agents-on : All (OnBus t bus) (agents t bus)
+  unfolding All
+  agents-on = (inl refl, all-on t bus (OnBus t bus) 0 (t .count) (λ k a b p. inr (omega (arith, b), p)))
+
+  module _ (h : Range) (im : Images) (x : Access) (driver : ℕ) where
+    owned-follows : (g : ℕ) → OnBus t bus g × (g ≡ driver → ⊥) → Follows t bus driver im (owned t h im x g) im
+    unfolding owned
+    owned-follows g s =
+        tested (eqb g host) (λ a. rw a tt)
+        (λ a.
+        tested (isBridge (t .node g .kind))
+        (λ b.
+        let k : Taken t bus driver g = record { bridge = b; node = eqb-false g host a; other = s .1; agent = s .0 } in
+        rw (a, b) (k, refl))
+        (λ b. rw (a, b) tt))
+
+    claimed-follows : (l : List ℕ) → All (λ g. OnBus t bus g × (g ≡ driver → ⊥)) l
+        → Follows t bus driver im (claimed t h im x bus driver (firstTwo l) .sight) (claimed t h im x bus driver (firstTwo l) .after)
+    unfolding claimed unclaimed All
+    claimed-follows [] a = tt
+    claimed-follows (y ∷ []) a = owned-follows y (a .0)
+    claimed-follows (y ∷ (z ∷ l)) a = tt
+
+    served-follows : (g : ℕ) → Follows t bus driver im (served t im x g .sight) (served t im x g .after)
+    unfolding served
+    served-follows g = tested (x .write) (λ q. rw q tt) (λ q. rw q tt)
+
+    direct-follows : Follows t bus driver im (direct t im x bus driver .sight) (direct t im x bus driver .after)
+    unfolding direct unclaimed
+    direct-follows =
+        tested (eqb (target t bus (x .device)) 255) (λ q. rw q tt) (λ q. rw q (served-follows (target t bus (x .device))))
+
+    -- a look sees one or the other
+    pub look-follows : (type0 : Bool)
+        → Follows t bus driver im (look t h im x bus driver type0 .sight) (look t h im x bus driver type0 .after)
+    unfolding look
+    look-follows true = direct-follows
+    look-follows false =
+        claimed-follows (claimants t h im (x .space) bus driver (x .address))
+        (claiming (OnBus t bus) (λ g. claims t h im (x .space) bus g (x .address)) driver (agents t bus) agents-on)
+
+-- so two ways to go on that agree on such a bridge agree
+pub follow-same : (t : Tree) (bus driver : ℕ) (im : Images) (cross cross' : ℕ → Images → Out) (s : Sight) (v : Images)
+    → Follows t bus driver im s v → ((g : ℕ) → Taken t bus driver g → cross g im ≡ cross' g im)
+    → follow cross s v ≡ follow cross' s v
+follow-same t bus driver im cross cross' (Ends e) v f same = refl
+follow-same t bus driver im cross cross' (Crosses g) v f same = rw (f .1) (same g (f .0))
