@@ -5,21 +5,17 @@ use mathlib.Core.Bool.{Bool, true, false, _&&_}
 use Prim.Native.Nat.{ℕ}
 use borrow.Author.Tests.{eq-eqb, ne-eqb}
 use lib.Dec.{eqb}
-use Rattle.rack.specs.declared.Node.{Node}
 use Rattle.rack.specs.Tree.{Tree, parentOf}
 use Rattle.registers.specs.Image.{Images}
 use Rattle.window.specs.declared.Range.{Range}
 use Rattle.claims.specs.declared.Space.{Space}
 use Rattle.claims.specs.Claimants.{counted, onBus}
 
-module _ (t : Tree) (h : Range) (im : Images) (space : Space) (bus driver a i : ℕ) {n : Node} (en : n ≡ t .node i) where
-  parent : n .parent ≡ parentOf t i
-  parent = ap (λ (m : Node). m .parent) en
-
-  pub on-bus : {r : Bool} → n .parent ≡ bus → r ≡ counted t h im space bus driver a i → r ≡ onBus t h im space bus driver a i
+module _ (t : Tree) (h : Range) (im : Images) (space : Space) (bus driver a i : ℕ) {p : ℕ} (parent : p ≡ parentOf t i) where
+  pub on-bus : {r : Bool} → p ≡ bus → r ≡ counted t h im space bus driver a i → r ≡ onBus t h im space bus driver a i
   on-bus e er =
       er ∙ ap (λ (b : Bool). b && counted t h im space bus driver a i) (sym (eq-eqb (parentOf t i) bus (sym parent ∙ e)))
 
-  pub off-bus : (n .parent ≡ bus → ⊥) → false ≡ onBus t h im space bus driver a i
+  pub off-bus : (p ≡ bus → ⊥) → false ≡ onBus t h im space bus driver a i
   off-bus ne =
       ap (λ (b : Bool). b && counted t h im space bus driver a i) (sym (ne-eqb (parentOf t i) bus (λ e. ne (parent ∙ e))))

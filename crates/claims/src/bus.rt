@@ -7,7 +7,7 @@ ghost use Rattle.claims.specs.Claimants.{counted, onBus, nextFrom, claim
 use crate::Claimants;
 use crate::Transaction;
 use crate::decode::agent_at;
-use rack::table::node_at;
+use rack::table::parent_at;
 use window::Range;
 
 // Whether agent g claims and does not drive.
@@ -42,8 +42,7 @@ fn counts_on_bus<'a>(
 ) -> bool
     ensures { λ r. ⌜ r ≡ onBus (treeOf count (now (words .entry))) host (images (now (bridges .entry)) (now (devices .entry))) (t .space) (t .bus) (t .driver) (t .address) i ⌝ }
 {
-    let n = node_at(words, i as usize);
-    if n.parent == t.bus {
+    if parent_at(words, i) == t.bus {
         return counts(words, count, bridges, devices, host, t, i);
     }
     false

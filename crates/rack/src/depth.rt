@@ -4,16 +4,9 @@ ghost use Prim.Native.Nat.{ℕ, _≤_, max};
 ghost use mathlib.Core.Bool.{cond};
 ghost use Rattle.rack.specs.Node.{isBridge};
 ghost use Rattle.rack.specs.Tree.{depth, greatestDepth};
-ghost use Rattle.rack.specs.Table.{nodeAt, treeOf};
+ghost use Rattle.rack.specs.Table.{treeOf};
 use crate::table::node_at;
-
-// The bus that a node sits on.
-pub fn parent_at(words: &[u64; 192], i: u8) -> u8
-    ensures { λ r. ⌜ r ≡ nodeAt (now (words .entry)) i .parent ⌝ }
-{
-    let n = node_at(words, i as usize);
-    n.parent
-}
+use crate::table::parent_at;
 
 // The depth of a bus: the steps up to the root.
 pub fn depth_of(words: &[u64; 192], count: u8, bus: u8) -> usize

@@ -112,6 +112,18 @@ pub fn node_at(words: &[u64; 192], i: usize) -> Node
     }
 }
 
+// The bus that a node sits on: one word, since every bus asks it of every node.
+pub fn parent_at(words: &[u64; 192], i: u8) -> u8
+    ensures { λ r. ⌜ r ≡ nodeAt (now (words .entry)) i .parent ⌝ }
+{
+    let at = i as usize;
+    if at < 96 {
+        (words[2 * at] / 0x100 % 256) as u8
+    } else {
+        0
+    }
+}
+
 pub fn place_at(words: &[u64; 192], i: usize) -> u8
     ensures { λ r. ⌜ r ≡ placeAt (now (words .entry)) i ⌝ }
 {

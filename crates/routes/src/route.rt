@@ -207,7 +207,7 @@ fn route_device(
 ) -> Ending
     ensures { λ r. ⌜ out r (now (bridges .exit)) (now (devices .exit)) ≡ driven (treeOf count (now (words .entry))) host x (images (now (bridges .entry)) (now (devices .entry))) i ⌝ }
 {
-    let bus = rack::depth::parent_at(words, i);
+    let bus = rack::table::parent_at(words, i);
     let e = route_from(words, count, bridges, devices, host, x, bus, i, false);
     return_to(words, count, bridges, devices, i, e);
     e

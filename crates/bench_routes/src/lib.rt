@@ -1,0 +1,55 @@
+// What the benchmark of routes calls: one memory read over a table and two images.
+use claims::Space;
+use routes::Access;
+use routes::Ending;
+use window::Range;
+
+fn crossings_of(e: Ending) -> u64 {
+    match e {
+        Ending::Data { crossings, value } => crossings as u64,
+        Ending::Stored { crossings } => crossings as u64,
+        Ending::Owner {
+            crossings,
+            node,
+            region,
+            offset,
+        } => crossings as u64 + 1000 * (node as u64 + 1),
+        Ending::Host { crossings, offset } => crossings as u64,
+        Ending::Unclaimed {
+            crossings,
+            holder,
+            outcome,
+        } => crossings as u64,
+        Ending::Clash {
+            crossings,
+            holder,
+            first,
+            second,
+        } => crossings as u64,
+        Ending::Silent => 999,
+    }
+}
+
+// The crossings of a memory read, plus 1000 times the owner's number plus one where it has an owner.
+#[no_mangle]
+pub extern "C" fn bench_route(
+    words: &[u64; 192],
+    count: u8,
+    bridges: &mut [u8],
+    devices: &mut [u8],
+    initiator: u8,
+    address: u64,
+) -> u64 {
+    let host = Range { first: 1, last: 0 };
+    let space = Space::Memory;
+    let x = Access {
+        space,
+        write: false,
+        address,
+        device: 0,
+        register: 0,
+        enables: 0,
+        data: 0,
+    };
+    crossings_of(routes::route::route_access(words, count, bridges, devices, host, x, initiator))
+}

@@ -1,0 +1,155 @@
+//! Calls over a rack and two lent images. Each gives its result, or the number of the
+//! first refusal; a refused call leaves both images as they are.
+
+use crate::answer::Answer;
+use crate::claims;
+use crate::file;
+use crate::machine::Machine;
+use crate::program::{run_check, run_event};
+use crate::rack::{Event, Rack};
+use crate::refuse::{self, Fields};
+use crate::registers;
+use crate::windows::{region_ends, Address, Ends, Windows};
+
+/// The machine of a call that is not refused.
+fn accept(rack: &Rack, bridges: &[u8], devices: &[u8], fields: &Fields) -> Result<Machine, u8> {
+    match refuse::call(rack, bridges, devices, fields) {
+        Some(number) => Err(number),
+        None => Machine::with_images(rack.clone(), bridges, devices),
+    }
+}
+
+/// Hands the registers back to the lent images; their lengths are equal by refusal 11.
+fn hand_back(machine: &Machine, bridges: &mut [u8], devices: &mut [u8]) {
+    crate::bytes::put(bridges, 0, machine.bridges());
+    crate::bytes::put(devices, 0, machine.devices());
+}
+
+/// Runs one event.
+pub fn event(
+    rack: &Rack,
+    bridges: &mut [u8],
+    devices: &mut [u8],
+    event: &Event,
+) -> Result<Answer, u8> {
+    let mut machine = accept(rack, bridges, devices, &Fields::of_event(event))?;
+    let answer = run_event(&mut machine, event);
+    hand_back(&machine, bridges, devices);
+    Ok(answer)
+}
+
+/// Checks the rack.
+pub fn check(rack: &Rack, bridges: &[u8], devices: &[u8]) -> Result<Answer, u8> {
+    Ok(run_check(&accept(rack, bridges, devices, &Fields::default())?))
+}
+
+/// The C call that runs an event: "1 to 10 as for a file"; "The event to run is read
+/// next, before 11"; then 11 to 13.
+pub fn event_of_bytes(
+    records: &[u8],
+    event_bytes: &[u8],
+    bridges: &mut [u8],
+    devices: &mut [u8],
+) -> Result<Answer, u8> {
+    let rack = file::read_rack(records).map_err(|refused| refused.number)?;
+    let read = file::read_event(event_bytes)?;
+    event(&rack, bridges, devices, &read)
+}
+
+/// The C call that checks.
+pub fn check_of_bytes(records: &[u8], bridges: &[u8], devices: &[u8]) -> Result<Answer, u8> {
+    let rack = file::read_rack(records).map_err(|refused| refused.number)?;
+    check(&rack, bridges, devices)
+}
+
+/// The register view; refused, "The view shows an empty part."
+pub fn view<'a>(rack: &Rack, bridges: &'a [u8], devices: &'a [u8], node: u8) -> &'a [u8] {
+    let fields = Fields { node: Some(node), ..Fields::default() };
+    match refuse::call(rack, bridges, devices, &fields) {
+        Some(_) => &[],
+        None => registers::part(rack, bridges, devices, node),
+    }
+}
+
+/// Register read of a node.
+pub fn register_read(
+    rack: &Rack,
+    bridges: &[u8],
+    devices: &[u8],
+    node: u8,
+    register: u8,
+) -> Result<u32, u8> {
+    let fields = Fields { node: Some(node), register: Some(register), ..Fields::default() };
+    Ok(accept(rack, bridges, devices, &fields)?.read(node, register))
+}
+
+/// Register write of a node, with byte enables.
+pub fn register_write(
+    rack: &Rack,
+    bridges: &mut [u8],
+    devices: &mut [u8],
+    node: u8,
+    (register, enables, data): (u8, u8, u32),
+) -> Result<(), u8> {
+    let fields = Fields {
+        node: Some(node),
+        register: Some(register),
+        enables: Some(enables),
+        ..Fields::default()
+    };
+    let mut machine = accept(rack, bridges, devices, &fields)?;
+    machine.write(node, register, enables, data);
+    hand_back(&machine, bridges, devices);
+    Ok(())
+}
+
+/// Sizing of a region; both images are as before.
+pub fn size(
+    rack: &Rack,
+    bridges: &mut [u8],
+    devices: &mut [u8],
+    node: u8,
+    region: u8,
+) -> Result<u64, u8> {
+    let fields = Fields { region: Some((node, region)), ..Fields::default() };
+    let mut machine = accept(rack, bridges, devices, &fields)?;
+    let size = machine.size(node, region);
+    hand_back(&machine, bridges, devices);
+    Ok(size)
+}
+
+/// Whether an agent claims an address on the bus of that holder, driven by another.
+pub fn claim(
+    rack: &Rack,
+    bridges: &[u8],
+    devices: &[u8],
+    (bus, agent): (u8, u8),
+    address: Address,
+) -> Result<bool, u8> {
+    let node = Some(agent).filter(|agent| *agent != crate::rack::HOST);
+    let fields = Fields { bus: Some(bus), node, ..Fields::default() };
+    let machine = accept(rack, bridges, devices, &fields)?;
+    Ok(claims::claims(&machine, bus, agent, address))
+}
+
+/// A bridge's windows, with both ends of each.
+pub fn windows(rack: &Rack, bridges: &[u8], devices: &[u8], bridge: u8) -> Result<Windows, u8> {
+    let fields = Fields { bridge: Some(bridge), ..Fields::default() };
+    let machine = accept(rack, bridges, devices, &fields)?;
+    Ok(Windows::of(machine.part(bridge)))
+}
+
+/// Both ends of a device's region; none for kind 0.
+pub fn region(
+    rack: &Rack,
+    bridges: &[u8],
+    devices: &[u8],
+    device: u8,
+    index: u8,
+) -> Result<Option<Ends>, u8> {
+    let fields = Fields { region: Some((device, index)), ..Fields::default() };
+    let machine = accept(rack, bridges, devices, &fields)?;
+    let record = machine.rack().regions(device).and_then(|all| all.get(usize::from(index)));
+    let ends = record.and_then(|record| region_ends(machine.part(device), index, record));
+    Ok(ends.map(|(_, ends)| ends))
+}

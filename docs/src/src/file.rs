@@ -1,0 +1,167 @@
+//! "The rack file", read to a rack with its events or to a refusal.
+
+use std::fmt;
+
+use crate::bytes::{u16_at, u32_at, u64_at, u8_at};
+use crate::rack::{Event, Header, Node, Rack, Region};
+use crate::refuse::{self, Fields};
+
+/// 1: "The file is longer than 65,536 bytes."
+pub const LONGEST: usize = 65_536;
+
+/// A refusal of a file: "`refused N at O`".
+#[derive(Clone, Copy, Debug, PartialEq, Eq)]
+pub struct Refused {
+    /// 1 to 13.
+    pub number: u8,
+    /// "the record's offset (65,536 for 1; 0 if empty)"
+    pub offset: usize,
+}
+
+impl fmt::Display for Refused {
+    fn fmt(&self, f: &mut fmt::Formatter) -> fmt::Result {
+        write!(f, "refused {} at {}", self.number, self.offset)
+    }
+}
+
+/// The body's length by kind; none if "The kind is not 1 to 8".
+fn body_length(kind: u8) -> Option<usize> {
+    match kind {
+        1 => Some(16),
+        2 => Some(6),
+        3 => Some(12),
+        4 => Some(8),
+        5 => Some(3),
+        6 => Some(10),
+        7 => Some(6),
+        8 => Some(0),
+        _ => None,
+    }
+}
+
+/// A whole rack file: rack records, then events.
+pub fn read(bytes: &[u8]) -> Result<(Rack, Vec<Event>), Refused> {
+    read_records(bytes, 8)
+}
+
+/// The rack records of a call: "1 to 10 as for a file, an event kind there being 2".
+pub fn read_rack(bytes: &[u8]) -> Result<Rack, Refused> {
+    read_records(bytes, 3).map(|(rack, _)| rack)
+}
+
+/// "A file stops at its first faulty record, with the record's offset".
+fn read_records(bytes: &[u8], greatest_kind: u8) -> Result<(Rack, Vec<Event>), Refused> {
+    if bytes.len() > LONGEST {
+        return Err(Refused { number: 1, offset: LONGEST });
+    }
+    let mut reading = Reading { rack: None, events: Vec::new() };
+    let mut offset = 0;
+    while let Some(rest) = bytes.get(offset..).filter(|rest| !rest.is_empty()) {
+        match one_record(rest, greatest_kind).and_then(|(kind, body)| reading.take(kind, body)) {
+            Ok(length) => offset += 1 + length,
+            Err(number) => return Err(Refused { number, offset }),
+        }
+    }
+    // 4: "There is no record"
+    let rack = reading.rack.ok_or(Refused { number: 4, offset: 0 })?;
+    Ok((rack, reading.events))
+}
+
+/// Kind and body of the record that `bytes` begin with, or refusal 2 or 3.
+fn one_record(bytes: &[u8], greatest_kind: u8) -> Result<(u8, &[u8]), u8> {
+    let kind = u8_at(bytes, 0);
+    // 2: "The kind is not 1 to 8."
+    let length = body_length(kind).filter(|_| kind <= greatest_kind).ok_or(2u8)?;
+    // 3: "The body is cut short."
+    let body = bytes.get(1..1 + length).ok_or(3u8)?;
+    Ok((kind, body))
+}
+
+/// What has been read so far.
+struct Reading {
+    rack: Option<Rack>,
+    events: Vec<Event>,
+}
+
+impl Reading {
+    /// Takes one record and gives its body's length, or the refusal (4 to 13).
+    fn take(&mut self, kind: u8, body: &[u8]) -> Result<usize, u8> {
+        match (&mut self.rack, kind) {
+            (None, 1) => {
+                let (host_first, host_last) = (u64_at(body, 0), u64_at(body, 8));
+                self.rack = Some(Rack { host_first, host_last, nodes: Vec::new() });
+            }
+            // 4: "the first is not a host, or a later one is."
+            (None, _) | (Some(_), 1) => return Err(4),
+            // 5: "A rack record follows an event."
+            (Some(_), 2 | 3) if !self.events.is_empty() => return Err(5),
+            (Some(rack), 2 | 3) => take_node(rack, node(kind, body))?,
+            (Some(rack), _) => {
+                let event = event(kind, body).ok_or(2u8)?;
+                match refuse::fields(rack, &Fields::of_event(&event)) {
+                    Some(number) => return Err(number),
+                    None => self.events.push(event),
+                }
+            }
+        }
+        Ok(body.len())
+    }
+}
+
+/// Refusals 6 to 10, or one node more.
+fn take_node(rack: &mut Rack, node: Node) -> Result<(), u8> {
+    match refuse::node(&rack.nodes, &node) {
+        Some(number) => Err(number),
+        None => {
+            rack.nodes.push(node);
+            Ok(())
+        }
+    }
+}
+
+/// "2 bridge (6): parent, device number, vendor ID (2), device ID (2). 3 device (12):
+/// the same six bytes, then three regions of kind (1) and exponent e (1)."
+fn node(kind: u8, body: &[u8]) -> Node {
+    let region = |at| Region { kind: u8_at(body, at), exponent: u8_at(body, at + 1) };
+    Node {
+        parent: u8_at(body, 0),
+        device: u8_at(body, 1),
+        vendor_id: u16_at(body, 2),
+        device_id: u16_at(body, 4),
+        header: match kind {
+            2 => Header::Bridge,
+            _ => Header::Device([region(6), region(8), region(10)]),
+        },
+    }
+}
+
+/// The event of a kind and body of the right length; none for other kinds.
+fn event(kind: u8, body: &[u8]) -> Option<Event> {
+    let (first, second, third) = (u8_at(body, 0), u8_at(body, 1), u8_at(body, 2));
+    match kind {
+        4 => Some(Event::ConfigWrite {
+            bus: first,
+            device_function: second,
+            register: third,
+            enables: u8_at(body, 3),
+            data: u32_at(body, 4),
+        }),
+        5 => Some(Event::ConfigRead { bus: first, device_function: second, register: third }),
+        6 => Some(Event::Memory { initiator: first, direction: second, address: u64_at(body, 2) }),
+        7 => Some(Event::Io { initiator: first, direction: second, address: u32_at(body, 2) }),
+        8 => Some(Event::Check),
+        _ => None,
+    }
+}
+
+/// The event of a call: "no byte or no event kind is 2, any length but its own is 3."
+pub fn read_event(bytes: &[u8]) -> Result<Event, u8> {
+    let (kind, body) = bytes.split_first().ok_or(2u8)?;
+    if !(4..=8).contains(kind) {
+        return Err(2);
+    }
+    if body_length(*kind) != Some(body.len()) {
+        return Err(3);
+    }
+    event(*kind, body).ok_or(2)
+}

@@ -1,0 +1,29 @@
+//! A second, independent implementation of `01-scope.md` ("Bridge trees, claims
+//! and routes"). Text in quotes in the comments is a sentence of that document.
+//!
+//! - [`file`]: a rack file read to a rack and its events, or to a refusal.
+//! - [`rack`]: the decoded rack, buses and agents.
+//! - [`refuse`]: refusals 6 to 13 of a decoded rack, images and a call's fields.
+//! - [`registers`]: masks, reset images, register read and write, sizing.
+//! - [`machine`]: a rack that passed 6 to 10 with images that passed 11 and 12.
+//! - [`windows`]: both ends of windows and regions, and the windows' predicates.
+//! - [`claims`]: what an agent claims on a bus.
+//! - [`route`]: where an access goes, and the status bits it leaves.
+//! - [`check`]: the rack check by boundary points.
+//! - [`answer`]: the endings of an event and the lines that show them.
+//! - [`calls`]: all of the above as calls over a rack and two lent images.
+//! - [`program`]: the whole output for the bytes of a rack file.
+
+pub mod answer;
+pub mod bytes;
+pub mod calls;
+pub mod check;
+pub mod claims;
+pub mod file;
+pub mod machine;
+pub mod program;
+pub mod rack;
+pub mod refuse;
+pub mod registers;
+pub mod route;
+pub mod windows;

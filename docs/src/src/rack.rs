@@ -1,0 +1,176 @@
+//! The decoded rack: host memory, nodes, buses and the agents of a bus.
+
+/// "A parent is a bridge's node number or 255, the root bus; 255 also names the host."
+pub const HOST: u8 = 255;
+
+/// "At most 32 bridges and 64 devices."
+pub const MOST_BRIDGES: usize = 32;
+/// "At most 32 bridges and 64 devices."
+pub const MOST_DEVICES: usize = 64;
+
+/// "three regions of kind (1) and exponent e (1)"
+#[derive(Clone, Copy, Debug, Default, PartialEq, Eq)]
+pub struct Region {
+    /// "0 none (e = 0), 1 I/O (e 2 to 8), 2 32-bit memory (e 4 to 31), 3 64-bit memory (e 4 to 31)"
+    pub kind: u8,
+    /// "A region has 2 to the e bytes."
+    pub exponent: u8,
+}
+
+/// What a node is: record kind 2 or record kind 3.
+#[derive(Clone, Copy, Debug, PartialEq, Eq)]
+pub enum Header {
+    /// "2 bridge (6)"
+    Bridge,
+    /// "3 device (12)", with its three regions.
+    Device([Region; 3]),
+}
+
+/// "Nodes (kinds 2 and 3) are numbered from 0 in file order."
+#[derive(Clone, Copy, Debug, PartialEq, Eq)]
+pub struct Node {
+    /// The bus the node sits on, named by its holder.
+    pub parent: u8,
+    /// The device number on that bus.
+    pub device: u8,
+    /// Registers 00h and 01h.
+    pub vendor_id: u16,
+    /// Registers 02h and 03h.
+    pub device_id: u16,
+    /// Bridge or device.
+    pub header: Header,
+}
+
+impl Node {
+    /// Whether the node is a bridge.
+    pub fn is_bridge(&self) -> bool {
+        self.header == Header::Bridge
+    }
+}
+
+/// A decoded rack. It may still be one that refusals 6 to 10 refuse.
+#[derive(Clone, Debug, Default, PartialEq, Eq)]
+pub struct Rack {
+    /// First address of host memory.
+    pub host_first: u64,
+    /// Last address of host memory; "first above last means none".
+    pub host_last: u64,
+    /// Bridges and devices, by number.
+    pub nodes: Vec<Node>,
+}
+
+impl Rack {
+    /// The node of that number, if there is one.
+    pub fn node(&self, number: u8) -> Option<&Node> {
+        self.nodes.get(usize::from(number))
+    }
+
+    /// The node of that number, if it is a bridge.
+    pub fn bridge(&self, number: u8) -> Option<&Node> {
+        self.node(number).filter(|node| node.is_bridge())
+    }
+
+    /// The regions of the node of that number, if it is a device.
+    pub fn regions(&self, number: u8) -> Option<&[Region; 3]> {
+        match &self.node(number)?.header {
+            Header::Bridge => None,
+            Header::Device(regions) => Some(regions),
+        }
+    }
+
+    /// The nodes with their numbers.
+    pub fn numbered(&self) -> impl Iterator<Item = (u8, &Node)> {
+        (0..HOST).zip(&self.nodes)
+    }
+
+    /// How many bridges there are.
+    pub fn bridge_count(&self) -> usize {
+        self.nodes.iter().filter(|node| node.is_bridge()).count()
+    }
+
+    /// How many devices there are.
+    pub fn device_count(&self) -> usize {
+        self.nodes.iter().filter(|node| !node.is_bridge()).count()
+    }
+
+    /// "Buses in order (root, then bridges by number)", each named by its holder.
+    pub fn buses(&self) -> Vec<u8> {
+        let bridges = self.numbered().filter(|(_, node)| node.is_bridge());
+        std::iter::once(HOST).chain(bridges.map(|(number, _)| number)).collect()
+    }
+
+    /// The nodes that sit on a bus, by number.
+    pub fn nodes_on(&self, bus: u8) -> Vec<u8> {
+        let here = self.numbered().filter(|(_, node)| node.parent == bus);
+        here.map(|(number, _)| number).collect()
+    }
+
+    /// "Agents of a bus: its holder (the host, or the bridge above it), then the
+    /// nodes on it by number."
+    pub fn agents(&self, bus: u8) -> Vec<u8> {
+        std::iter::once(bus).chain(self.nodes_on(bus)).collect()
+    }
+
+    /// "The root bus has depth 0, a bridge's bus one more than the bus it sits on."
+    pub fn depth(&self, bus: u8) -> usize {
+        match self.bridge(bus) {
+            Some(bridge) if bridge.parent == HOST => 1,
+            // An earlier bridge has a smaller number, so this ends.
+            Some(bridge) if bridge.parent < bus => 1 + self.depth(bridge.parent),
+            _ => 0,
+        }
+    }
+
+    /// "The greatest depth is taken over all buses, those without nodes too."
+    pub fn greatest_depth(&self) -> usize {
+        let depths = self.buses().into_iter().map(|bus| self.depth(bus));
+        depths.max().unwrap_or(0)
+    }
+}
+
+/// Record kinds 4 to 8.
+#[derive(Clone, Copy, Debug, PartialEq, Eq)]
+pub enum Event {
+    /// "4 configuration write (8)"
+    ConfigWrite {
+        /// Bus number.
+        bus: u8,
+        /// "device times 8 plus function"
+        device_function: u8,
+        /// Register.
+        register: u8,
+        /// "byte enables (bit i for byte i)"
+        enables: u8,
+        /// Data.
+        data: u32,
+    },
+    /// "5 configuration read (3)"
+    ConfigRead {
+        /// Bus number.
+        bus: u8,
+        /// "device times 8 plus function"
+        device_function: u8,
+        /// Register.
+        register: u8,
+    },
+    /// "6 memory access (10)"
+    Memory {
+        /// 255 or a device's number.
+        initiator: u8,
+        /// "0 read or 1 write"
+        direction: u8,
+        /// Address.
+        address: u64,
+    },
+    /// "7 I/O access (6)"
+    Io {
+        /// 255 or a device's number.
+        initiator: u8,
+        /// 0 or 1.
+        direction: u8,
+        /// Address.
+        address: u32,
+    },
+    /// "8 check (0)"
+    Check,
+}

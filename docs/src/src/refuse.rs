@@ -1,0 +1,149 @@
+//! "Refused, in this order": 6 to 13, of a decoded rack, images and a call's fields.
+
+use crate::rack::{Event, Header, Node, Rack, Region, HOST, MOST_BRIDGES, MOST_DEVICES};
+use crate::registers;
+
+/// Refusals 6 to 10 of one node after `earlier` ones that are not refused.
+pub fn node(earlier: &[Node], node: &Node) -> Option<u8> {
+    if too_many(earlier, node) {
+        Some(6)
+    } else if !parent_stands(earlier, node) {
+        Some(7)
+    } else if node.device > 15 {
+        Some(8) // "The device number exceeds 15."
+    } else if device_number_taken(earlier, node) {
+        Some(9)
+    } else if !regions_in_range(node) {
+        Some(10)
+    } else {
+        None
+    }
+}
+
+/// 6: "A 33rd bridge or 65th device appears."
+fn too_many(earlier: &[Node], node: &Node) -> bool {
+    let alike = earlier.iter().filter(|e| e.is_bridge() == node.is_bridge());
+    let most = if node.is_bridge() { MOST_BRIDGES } else { MOST_DEVICES };
+    alike.count() >= most
+}
+
+/// 7: "The parent is neither 255 nor an earlier bridge."
+fn parent_stands(earlier: &[Node], node: &Node) -> bool {
+    let parent = earlier.get(usize::from(node.parent));
+    node.parent == HOST || parent.is_some_and(Node::is_bridge)
+}
+
+/// 9: "The device number is taken on that bus."
+fn device_number_taken(earlier: &[Node], node: &Node) -> bool {
+    let mut others = earlier.iter();
+    others.any(|e| e.parent == node.parent && e.device == node.device)
+}
+
+/// 10: "A region's kind or exponent is out of range."
+fn regions_in_range(node: &Node) -> bool {
+    match &node.header {
+        Header::Bridge => true,
+        Header::Device(regions) => regions.iter().all(region_in_range),
+    }
+}
+
+/// "Region kinds: 0 none (e = 0), 1 I/O (e 2 to 8), 2 32-bit memory (e 4 to 31),
+/// 3 64-bit memory (e 4 to 31)."
+fn region_in_range(region: &Region) -> bool {
+    match region.kind {
+        0 => region.exponent == 0,
+        1 => (2..=8).contains(&region.exponent),
+        2 | 3 => (4..=31).contains(&region.exponent),
+        _ => false,
+    }
+}
+
+/// "Calls apply 6 to 10 to the decoded rack node by node, as a file would meet them".
+pub fn rack(rack: &Rack) -> Option<u8> {
+    let mut earlier: &[Node] = &[];
+    for (index, this) in rack.nodes.iter().enumerate() {
+        if let Some(number) = node(earlier, this) {
+            return Some(number);
+        }
+        earlier = rack.nodes.get(..=index).unwrap_or(earlier);
+    }
+    None
+}
+
+/// Refusals 11 and 12, of two images for a rack that is not refused.
+pub fn images(rack: &Rack, bridges: &[u8], devices: &[u8]) -> Option<u8> {
+    // 11: "An image is not 64 times its node count long."
+    let lengths = (64 * rack.bridge_count(), 64 * rack.device_count());
+    if (bridges.len(), devices.len()) != lengths {
+        return Some(11);
+    }
+    // 12: "A fixed bit differs from its reset value."
+    let differs = rack.numbered().any(|(number, node)| {
+        let part = registers::part(rack, bridges, devices, number);
+        registers::fixed_bit_differs(node, part)
+    });
+    differs.then_some(12)
+}
+
+/// The fields of a call that refusal 13 speaks of; a call leaves out those it has not.
+#[derive(Clone, Copy, Debug, Default, PartialEq, Eq)]
+pub struct Fields {
+    /// A register.
+    pub register: Option<u8>,
+    /// Byte enables.
+    pub enables: Option<u8>,
+    /// A direction.
+    pub direction: Option<u8>,
+    /// An initiator.
+    pub initiator: Option<u8>,
+    /// A node named in the call, of either kind.
+    pub node: Option<u8>,
+    /// A node named in the call that has to be a bridge.
+    pub bridge: Option<u8>,
+    /// A bus named in the call by its holder.
+    pub bus: Option<u8>,
+    /// A region named in the call, with the device it is in.
+    pub region: Option<(u8, u8)>,
+}
+
+impl Fields {
+    /// The fields of an event.
+    pub fn of_event(event: &Event) -> Fields {
+        let mut fields = Fields::default();
+        match *event {
+            Event::ConfigWrite { register, enables, .. } => {
+                fields.register = Some(register);
+                fields.enables = Some(enables);
+            }
+            Event::ConfigRead { register, .. } => fields.register = Some(register),
+            Event::Memory { initiator, direction, .. } | Event::Io { initiator, direction, .. } => {
+                fields.initiator = Some(initiator);
+                fields.direction = Some(direction);
+            }
+            Event::Check => {}
+        }
+        fields
+    }
+}
+
+/// Refusal 13: "A register is no multiple of 4, enables exceed 15, a direction
+/// exceeds 1, an initiator is neither host nor device, or a node or region named
+/// in a call is missing."
+pub fn fields(rack: &Rack, fields: &Fields) -> Option<u8> {
+    let is_device = |number| rack.regions(number).is_some();
+    let fault = fields.register.is_some_and(|register| register % 4 != 0)
+        || fields.enables.is_some_and(|enables| enables > 15)
+        || fields.direction.is_some_and(|direction| direction > 1)
+        || fields.initiator.is_some_and(|number| number != HOST && !is_device(number))
+        || fields.node.is_some_and(|number| rack.node(number).is_none())
+        || fields.bridge.is_some_and(|number| rack.bridge(number).is_none())
+        || fields.bus.is_some_and(|holder| holder != HOST && rack.bridge(holder).is_none())
+        || fields.region.is_some_and(|(number, region)| !is_device(number) || region > 2);
+    fault.then_some(13)
+}
+
+/// Refusals 6 to 13 of a call: "6 to 10 to the decoded rack node by node, ...,
+/// then 11 to 13, and return the number."
+pub fn call(decoded: &Rack, bridges: &[u8], devices: &[u8], named: &Fields) -> Option<u8> {
+    rack(decoded).or_else(|| images(decoded, bridges, devices)).or_else(|| fields(decoded, named))
+}

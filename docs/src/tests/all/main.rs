@@ -1,0 +1,11 @@
+//! All tests, in one binary.
+
+mod build;
+mod calls;
+mod check;
+mod items;
+mod program;
+mod random;
+mod refusals;
+mod registers;
+mod routes;
