@@ -1,10 +1,9 @@
--- Whether a node is on a bus, after the code has looked it up.
+-- Whether a node is on a bus and counts, after the code has looked it up.
 -- Assumes nothing.
 use mathlib.Core.Path.{_≡_, sym, ap, _∙_}
-use mathlib.Core.Bool.{Bool, true, false, _&&_}
+use mathlib.Core.Bool.{Bool, false, _&&_}
 use Prim.Native.Nat.{ℕ}
 use borrow.Author.Tests.{eq-eqb, ne-eqb}
-use lib.Dec.{eqb}
 use Rattle.rack.specs.Tree.{Tree, parentOf}
 use Rattle.registers.specs.Image.{Images}
 use Rattle.window.specs.declared.Range.{Range}

@@ -1,6 +1,6 @@
 // The claimants of a bus.
 ghost use mathlib.Core.Path.{_≡_};
-ghost use Prim.Native.Nat.{ℕ, _-_};
+ghost use Prim.Native.Nat.{_-_};
 ghost use Rattle.rack.specs.Table.{treeOf};
 ghost use Rattle.registers.specs.Image.{images};
 ghost use Rattle.claims.specs.Claimants.{counted, onBus, nextFrom, claimants, firstTwo};
@@ -30,24 +30,6 @@ fn counts<'a>(
     agent.claims(space, t.address)
 }
 
-// Whether node i is on the bus, claims and does not drive.
-fn counts_on_bus<'a>(
-    words: &[u64; 192],
-    count: u8,
-    bridges: &'a [u8],
-    devices: &'a [u8],
-    host: Range,
-    t: Transaction,
-    i: u8,
-) -> bool
-    ensures { λ r. ⌜ r ≡ onBus (treeOf count (now (words .entry))) host (images (now (bridges .entry)) (now (devices .entry))) (t .space) (t .bus) (t .driver) (t .address) i ⌝ }
-{
-    if parent_at(words, i) == t.bus {
-        return counts(words, count, bridges, devices, host, t, i);
-    }
-    false
-}
-
 // The first node on the bus, from number `from` on, that claims; 255 for none.
 fn next_claimant<'a>(
     words: &[u64; 192],
@@ -60,12 +42,17 @@ fn next_claimant<'a>(
 ) -> u8
     ensures { λ r. ⌜ r ≡ nextFrom (onBus (treeOf count (now (words .entry))) host (images (now (bridges .entry)) (now (devices .entry))) (t .space) (t .bus) (t .driver) (t .address)) from (count - from) ⌝ }
 {
+    let bus = t.bus;
     let mut i = from;
     while i < count {
-        if counts_on_bus(words, count, bridges, devices, host, t, i) {
-            return i;
+        if parent_at(words, i) == bus {
+            if counts(words, count, bridges, devices, host, t, i) {
+                return i;
+            }
+            i += 1;
+        } else {
+            i += 1;
         }
-        i += 1;
     }
     255
 }

@@ -2,34 +2,44 @@
 -- Assumes nothing.
 use mathlib.Core.Path.{_≡_, refl}
 use mathlib.Core.Bool.{Bool, true, false, not, _&&_, cond}
-use mathlib.Core.List.{List, [], _∷_}
-use Prim.Native.Nat.{ℕ, _+_, _*_, _/_, _%_}
+use mathlib.Core.List.{List, [], _∷_, _++_}
+use Prim.Native.Nat.{ℕ, _+_, _-_, _*_, _/_, _%_}
 use lib.Dec.{eqb}
-use lib.ListN.{set}
+use lib.ListN.{length, set}
 use Rattle.rack.specs.declared.Kind.{Kind}
 use Rattle.rack.specs.declared.Kind.the-variants.{Device, Bridge}
 use Rattle.rack.specs.declared.Region.{Region}
 use Rattle.rack.specs.declared.Node.{Node}
-use Rattle.rack.specs.Node.{noRegion}
+use Rattle.rack.specs.Node.{isBridge, noRegion, noNode}
+use Rattle.rack.specs.Count.{countOf}
 use Rattle.header.specs.Offset.{STATUS, BASE-ADDRESS}
 use Rattle.header.specs.Mask.{writeMask, clearMask, regionWrite, regionReset, resetByte}
 use Rattle.header.specs.Register.{readRegister, writeByte, writeDword, writeRegister}
 use Rattle.header.specs.Sizing.{readBack, sizePart}
 use Rattle.registers.specs.Reset.{resetFrom, resetPart}
-use Rattle.rack.specs.Tree.{Tree, host, nodesFrom}
-use Rattle.registers.specs.Image.{images, partOf, view}
+use Rattle.rack.specs.Tree.{Tree, host, placeOf, nodesFrom, bridgesFrom}
+use Rattle.registers.specs.Image.{Images, images, partOf, view}
 use Rattle.window.specs.Range.{empty}
-use Rattle.claims.specs.declared.Space.the-variants.{Configuration}
-use Rattle.claims.specs.Agent.{bridgeOf, agentOf}
-use Rattle.claims.specs.Claim.{primaryClaims, hostClaims, claimsOf}
+use Rattle.window.specs.Area.{areaOf}
+use Rattle.window.specs.Area as area
+use Rattle.window.specs.Cut.{cutAt, cutPast, cutIf, cutLow}
+use Rattle.claims.specs.declared.Space.the-variants.{Memory, Configuration}
+use Rattle.claims.specs.Agent.{bridgeOf, deviceOf, agentOf}
+use Rattle.claims.specs.Claim.{primaryClaims, secondaryClaims, deviceClaims, hostClaims, claimsOf, windowsUntil, regionsUntil, untilOf}
 use Rattle.claims.specs.Claimants.{claimantsIn}
 use Rattle.routes.specs.declared.Access.{Access}
 use Rattle.routes.specs.declared.Sight.{Sight}
 use Rattle.routes.specs.declared.Sight.the-variants.{Ends, Crosses}
 use Rattle.routes.specs.Look.{owned, claimed, look}
 use Rattle.routes.specs.Cross.{turnsType0}
+use Rattle.overlap.specs.declared.Report.{Report}
+use Rattle.overlap.specs.declared.Report.the-variants.{Pass, Fault}
+use Rattle.overlap.specs.Report.{reportNumber, reportValues}
+use Rattle.overlap.specs.Check.{firstIn, shown, atValue, check}
+use Rattle.overlap.specs.Stretch.{untilAll}
+use Rattle.overlap.specs.Swept.{decoded, sweepBy, firstBy, onBusBy, checkBy, checked}
 use Rattle.window.specs.Window.{windowsOf}
-use Rattle.window.specs.Inside.{inMemory, inPrefetchable, insideIo}
+use Rattle.window.specs.Inside.{inMemory, inPrefetchable, insideMemory, insideIo, memoryUntil, ioUntil}
 
 -- a byte put at an offset
 pub data Poke : Type 0 where
@@ -41,6 +51,10 @@ pub data Window : Type 0 where
   prefetchable : Window
   io : Window
 
+-- a node of a rack, with registers written over it at reset
+pub data Fitted : Type 0 where
+  fitted : Node → List Poke → Fitted
+
 -- a row of the table
 pub data Row : Type 0 where
   -- a region's kind and exponent; what its register reads back after all ones, and its size
@@ -51,26 +65,39 @@ pub data Row : Type 0 where
   crosses : List Poke → ℕ → Row
   -- a header kind; a status, what is written to it, and the status then
   clears : Kind → ℕ → ℕ → ℕ → Row
+  -- the nodes of a rack without host memory; what its check says
+  checks : List Fitted → Report → Row
 
--- a node of a kind, whose first region is given
-abbrev pub node : Kind → Region → Node
-node k g =
+-- a node of a kind on a bus, with its device number; its first region is given
+abbrev pub nodeOn : Kind → ℕ → ℕ → Region → Node
+nodeOn k bus d g =
     record {
       kind = k;
-      parent = 255;
-      device = 0;
+      parent = bus;
+      device = d;
       «vendor_id» = 0;
       «device_id» = 0;
       regions = g ∷ noRegion ∷ noRegion ∷ [];
     }
 
-abbrev pub device : ℕ → ℕ → Node
-device kind e = node Device (record { kind = kind; exponent = e })
+-- one alone on the root bus
+abbrev pub node : Kind → Region → Node
+node k g = nodeOn k host 0 g
 
--- a bridge at reset with bytes put
+abbrev pub region : ℕ → ℕ → Region
+region kind e = record { kind = kind; exponent = e }
+
+abbrev pub device : ℕ → ℕ → Node
+device kind e = node Device (region kind e)
+
+-- a node at reset with bytes put
+abbrev pub put : Node → List Poke → List ℕ
+put n [] = resetPart n
+put n (byte at v ∷ ps) = set (put n ps) at v
+
+-- a bridge so
 abbrev pub poked : List Poke → List ℕ
-poked [] = resetPart (node Bridge noRegion)
-poked (byte at v ∷ ps) = set (poked ps) at v
+poked ps = put (node Bridge noRegion) ps
 
 abbrev pub answer : Window → List ℕ → ℕ → Bool
 answer memory part a = inMemory (windowsOf part) a
@@ -99,6 +126,32 @@ asType1 part bus =
     takenBy (look alone empty (images part []) (reading bus) host host false .sight) 0
     && not (turnsType0 alone (images part []) (reading bus) host 0)
 
+-- a rack of such nodes
+abbrev pub nodeIn : List Fitted → ℕ → Node
+nodeIn [] i = noNode
+nodeIn (fitted n ps ∷ fs) i = cond (eqb i 0) n (nodeIn fs (i - 1))
+
+abbrev pub rackOf : List Fitted → Tree
+rackOf fs = record { count = length fs; node = nodeIn fs; place = placeOf (nodeIn fs) }
+
+-- the image of its bridges, and of its devices
+abbrev pub imageIn : Bool → List Fitted → List ℕ
+imageIn b [] = []
+imageIn b (fitted n ps ∷ fs) = cond (cond b (isBridge (n .kind)) (not (isBridge (n .kind)))) (put n ps ++ imageIn b fs) (imageIn b fs)
+
+abbrev pub imagesOf : List Fitted → Images
+imagesOf fs = images (imageIn true fs) (imageIn false fs)
+
+-- two reports are the same: their numbers and values
+abbrev pub sameValues : List ℕ → List ℕ → Bool
+sameValues [] [] = true
+sameValues [] (y ∷ ys) = false
+sameValues (x ∷ xs) [] = false
+sameValues (x ∷ xs) (y ∷ ys) = eqb x y && sameValues xs ys
+
+abbrev pub sameReport : Report → Report → Bool
+sameReport r s = eqb (reportNumber r) (reportNumber s) && sameValues (reportValues r) (reportValues s)
+
 -- a node at reset, but for its status
 abbrev pub withStatus : Node → ℕ → List ℕ
 withStatus n status = set (set (resetPart n) STATUS (status % 256)) (STATUS + 1) (status / 256)
@@ -114,10 +167,22 @@ holds (sizes kind e seen size) =
 holds (holds-of w ps ins outs) = each w (poked ps) true ins && each w (poked ps) false outs
 holds (crosses ps bus) = asType1 (poked ps) bus
 holds (clears k status put after) = eqb (statusAfter (node k noRegion) status put) after
+holds (checks fs r) = sameReport (check (rackOf fs) empty (imagesOf fs)) r
 
 abbrev pub all : List Row → Bool
 all [] = true
 all (r ∷ rs) = holds r && all rs
+
+-- items 11 and 12: a bridge on the root bus with command 4, and below it a device with command 2 and a region of e = 12 at
+-- 90000000h; with another device that has no region, and without
+abbrev pub two : List Fitted
+two =
+    fitted (nodeOn Bridge host 0 noRegion) (byte 0x04 0x04 ∷ [])
+    ∷ fitted (nodeOn Device 0 0 (region 2 12)) (byte 0x04 0x02 ∷ byte 0x13 0x90 ∷ [])
+    ∷ []
+
+abbrev pub three : List Fitted
+three = two ++ (fitted (nodeOn Device 0 1 noRegion) [] ∷ [])
 
 -- the table, each row with its item's number
 abbrev pub rows : List Row
@@ -143,9 +208,20 @@ rows =
     ∷ clears Bridge 0xa000 0x2000 0x8000  -- 9: 'Status A000h, written 2000h: 8000h', of a bridge
     ∷ clears Device 0xa000 0x2000 0x8000  -- 9, of a device
     ∷ crosses (byte 0x19 0x00 ∷ byte 0x1a 0x05 ∷ []) 3  -- 10: 'Secondary 0, subordinate 5: bus 3 crosses as Type 1'
+    ∷ checks three (Fault 0 Memory 0x90000000 2 0 1)  -- 11: '`fault 0 memory 0000000090000000 2 0 1`'
+    ∷ checks two Pass  -- 12: 'The same without device 2: pass'
     ∷ []
+
+-- the check is a search of every address: what the sweep finds in at most 40 stretches is what it finds (`checked`)
+three-faults : check (rackOf three) empty (imagesOf three) ≡ Fault 0 Memory 0x90000000 2 0 1
+unfolding countOf placeOf resetFrom resetByte regionReset partOf view nodesFrom bridgesFrom windowsOf areaOf area.holds insideMemory insideIo memoryUntil ioUntil cutAt cutPast cutIf cutLow bridgeOf deviceOf agentOf primaryClaims secondaryClaims deviceClaims hostClaims claimsOf windowsUntil regionsUntil untilOf claimantsIn firstIn shown atValue untilAll decoded sweepBy firstBy onBusBy checkBy
+three-faults = checked 40 _ _ _ _ refl
+
+two-pass : check (rackOf two) empty (imagesOf two) ≡ Pass
+unfolding countOf placeOf resetFrom resetByte regionReset partOf view nodesFrom bridgesFrom windowsOf areaOf area.holds insideMemory insideIo memoryUntil ioUntil cutAt cutPast cutIf cutLow bridgeOf deviceOf agentOf primaryClaims secondaryClaims deviceClaims hostClaims claimsOf windowsUntil regionsUntil untilOf claimantsIn firstIn shown atValue untilAll decoded sweepBy firstBy onBusBy checkBy
+two-pass = checked 40 _ _ _ _ refl
 
 -- every row holds
 pub table : all rows ≡ true
 unfolding resetFrom resetByte regionReset regionWrite writeMask clearMask readRegister writeByte writeDword writeRegister readBack sizePart windowsOf insideIo nodesFrom partOf view bridgeOf agentOf primaryClaims hostClaims claimsOf claimantsIn owned claimed look turnsType0
-table = refl
+table = rw (three-faults, two-pass) refl

@@ -1,5 +1,6 @@
 use Rattle.claims.specs.ClaimantLaws.{next-found, next-next, next-none}
 use Rattle.claims.specs.Claimants.{onBus, nextFrom}
+use Rattle.claims.proofs.OnBus.{on-bus, off-bus}
 use Rattle.registers.specs.Image.{images}
 use Rattle.rack.specs.Table.{treeOf}
 use borrow.Author.Needs.{needs}
@@ -9,25 +10,29 @@ use Rattle.claims.proofs.bus.next_claimant.Statement.{statement}
 use Rattle.claims.proofs.bus.next_claimant.Tie as tie
 
 abbrev Inv-loop : tie.InvT-loop
-Inv-loop words count bridges devices host t from i₀ i =
+Inv-loop words count bridges devices host t from bus i₀ i =
     nextFrom (onBus (treeOf count words) host (images bridges devices) (t .space) (t .bus) (t .driver) (t .address)) from (count - from)
     ≡ nextFrom (onBus (treeOf count words) host (images bridges devices) (t .space) (t .bus) (t .driver) (t .address)) i (count - i)
 
 abbrev μ-loop : tie.MeasureT-loop
-μ-loop words count bridges devices host t from i₀ i = count - i
+μ-loop words count bridges devices host t from bus i₀ i = count - i
 
 loop-holds : tie.Need-loop-holds Inv-loop μ-loop
 loop-holds c = refl
 
-counts-on-bus-requires : tie.Need-counts-on-bus-requires Inv-loop μ-loop
-counts-on-bus-requires c κs = search needs
+parent-at-requires : tie.Need-parent-at-requires Inv-loop μ-loop
+parent-at-requires c κs = search needs
+
+counts-requires : tie.Need-counts-requires Inv-loop μ-loop
+counts-requires c κs = search needs
 
 returns : tie.Need-returns Inv-loop μ-loop
 returns c =
-    let at-loop = c .before .before .before in
+    let at-loop = c .before .before .before .before .before in
     let a = at-loop .before .before .before .args in
     let f = onBus (treeOf (a .count) (a .words .now)) (a .host) (images (a .bridges .now) (a .devices .now)) (a .t .space) (a .t .bus) (a .t .driver) (a .t .address) in
-    sym (at-loop .loop .inv ∙ next-found f (at-loop .loop .i) (a .count) (c .before .before .loop-test .taken) (sym (c .before .counts-on-bus .ensures) ∙ c .if1 .taken))
+    let on = on-bus (treeOf (a .count) (a .words .now)) (a .host) (images (a .bridges .now) (a .devices .now)) (a .t .space) (a .t .bus) (a .t .driver) (a .t .address) (at-loop .loop .i) (c .before .before .before .parent-at .ensures) (c .before .before .if1 .taken) (c .before .counts .ensures) in
+    sym (at-loop .loop .inv ∙ next-found f (at-loop .loop .i) (a .count) (c .before .before .before .before .loop-test .taken) (sym on ∙ c .if2 .taken))
 
 add-i : tie.Need-add-i Inv-loop μ-loop
 add-i c = search needs
@@ -37,10 +42,25 @@ loop-less c = search needs
 
 loop-again : tie.Need-loop-again Inv-loop μ-loop
 loop-again c =
+    let at-loop = c .before .before .before .before .before in
+    let a = at-loop .before .before .before .args in
+    let f = onBus (treeOf (a .count) (a .words .now)) (a .host) (images (a .bridges .now) (a .devices .now)) (a .t .space) (a .t .bus) (a .t .driver) (a .t .address) in
+    let on = on-bus (treeOf (a .count) (a .words .now)) (a .host) (images (a .bridges .now) (a .devices .now)) (a .t .space) (a .t .bus) (a .t .driver) (a .t .address) (at-loop .loop .i) (c .before .before .before .parent-at .ensures) (c .before .before .if1 .taken) (c .before .counts .ensures) in
+    at-loop .loop .inv ∙ next-next f (at-loop .loop .i) (a .count) (c .before .before .before .before .loop-test .taken) (sym on ∙ c .if2 .left)
+
+add-i-2 : tie.Need-add-i-2 Inv-loop μ-loop
+add-i-2 c = search needs
+
+loop-less-2 : tie.Need-loop-less-2 Inv-loop μ-loop
+loop-less-2 c = search needs
+
+loop-again-2 : tie.Need-loop-again-2 Inv-loop μ-loop
+loop-again-2 c =
     let at-loop = c .before .before .before in
     let a = at-loop .before .before .before .args in
     let f = onBus (treeOf (a .count) (a .words .now)) (a .host) (images (a .bridges .now) (a .devices .now)) (a .t .space) (a .t .bus) (a .t .driver) (a .t .address) in
-    at-loop .loop .inv ∙ next-next f (at-loop .loop .i) (a .count) (c .before .before .loop-test .taken) (sym (c .before .counts-on-bus .ensures) ∙ c .if1 .left)
+    let off = off-bus (treeOf (a .count) (a .words .now)) (a .host) (images (a .bridges .now) (a .devices .now)) (a .t .space) (a .t .bus) (a .t .driver) (a .t .address) (at-loop .loop .i) (c .before .parent-at .ensures) (c .if1 .left) in
+    at-loop .loop .inv ∙ next-next f (at-loop .loop .i) (a .count) (c .before .before .loop-test .taken) (sym off)
 
 returns-2 : tie.Need-returns-2 Inv-loop μ-loop
 returns-2 c =
@@ -56,9 +76,13 @@ next-claimant-spec =
     Inv-loop
     μ-loop
     loop-holds
-    counts-on-bus-requires
+    parent-at-requires
+    counts-requires
     returns
     add-i
     loop-less
     loop-again
+    add-i-2
+    loop-less-2
+    loop-again-2
     returns-2)

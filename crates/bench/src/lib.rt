@@ -1,5 +1,6 @@
-// What the benchmark of routes calls: one memory read over a table and two images.
+// What the benchmarks call, over a table and two images: one memory read, one check. No contract beyond safety; no open call.
 use claims::Space;
+use overlap::Report;
 use routes::Access;
 use routes::Ending;
 use window::Range;
@@ -52,4 +53,41 @@ pub extern "C" fn bench_route(
         data: 0,
     };
     crossings_of(routes::route::route_access(words, count, bridges, devices, host, x, initiator))
+}
+
+// A fault's value plus one, 0 for a pass.
+fn value_of(r: Report) -> u64 {
+    match r {
+        Report::Pass => 0,
+        Report::Fault {
+            holder,
+            space,
+            value,
+            driver,
+            first,
+            second,
+        } => value / 2 + 1,
+    }
+}
+
+// The check of a rack that is accepted, as often as asked for; all ones where it is not accepted.
+#[no_mangle]
+pub extern "C" fn bench_check<'a>(
+    words: &[u64; 192],
+    count: u8,
+    bridges: &'a [u8],
+    devices: &'a [u8],
+    rounds: u8,
+) -> u64 {
+    let host = Range { first: 1, last: 0 };
+    let mut shown: u64 = 0xFFFF_FFFF_FFFF_FFFF;
+    if rack::refusal::refusal_of(words, count) != 0 {
+        return shown;
+    }
+    let mut i: u8 = 0;
+    while i < rounds {
+        shown = value_of(overlap::buses::check_rack(words, count, bridges, devices, host));
+        i += 1;
+    }
+    shown
 }

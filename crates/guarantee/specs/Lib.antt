@@ -1,0 +1,4 @@
+pub mod Firsts
+pub mod Quiet
+pub mod Ways
+pub mod PassedRack

@@ -1,0 +1,1 @@
+// The theorems of demand 3, over the definitions of routes and check; no code.

@@ -1,0 +1,171 @@
+// The first driver that two others answer at an address.
+ghost use mathlib.Core.Path.{_≡_};
+ghost use Prim.Native.Nat.{_≤_};
+ghost use Rattle.rack.specs.Table.{treeOf};
+ghost use Rattle.rack.specs.Tree.{agents, nodesOn};
+ghost use Rattle.registers.specs.Image.{images};
+ghost use Rattle.overlap.specs.declared.Report.the-variants.{Pass};
+ghost use Rattle.overlap.specs.Check.{isFault, firstIn, shown, driven, atValue};
+use crate::Report;
+use claims::Claimants;
+use claims::Space;
+use claims::Transaction;
+use rack::table::parent_at;
+use window::Range;
+
+pub fn is_fault(r: Report) -> bool
+    ensures { λ s. ⌜ s ≡ isFault r ⌝ }
+{
+    match r {
+        Report::Pass => false,
+        Report::Fault {
+            holder,
+            space,
+            value,
+            driver,
+            first,
+            second,
+        } => true,
+    }
+}
+
+// Two claimants are a fault.
+fn shown_by(bus: u8, space: Space, a: u64, driver: u8, c: Claimants) -> Report
+    ensures { λ r. ⌜ r ≡ shown bus space a driver c ⌝ }
+{
+    match c {
+        Claimants::Nobody => Report::Pass,
+        Claimants::One(x) => Report::Pass,
+        Claimants::Two(x, y) => Report::Fault {
+            holder: bus,
+            space,
+            value: a,
+            driver,
+            first: x,
+            second: y,
+        },
+    }
+}
+
+// One driver at one address.
+fn driven_by<'a>(
+    words: &[u64; 192],
+    count: u8,
+    bridges: &'a [u8],
+    devices: &'a [u8],
+    host: Range,
+    bus: u8,
+    space: Space,
+    a: u64,
+    by: u8,
+) -> Report
+    ensures { λ r. ⌜ r ≡ driven (treeOf count (now (words .entry))) host (images (now (bridges .entry)) (now (devices .entry))) bus space a by ⌝ }
+{
+    let t = Transaction {
+        space,
+        bus,
+        driver: by,
+        address: a,
+    };
+    let c = claims::bus::claimants_of(words, count, bridges, devices, host, t);
+    shown_by(bus, space, a, by, c)
+}
+
+// The nodes on a bus as drivers.
+fn nodes_drive<'a>(
+    words: &[u64; 192],
+    count: u8,
+    bridges: &'a [u8],
+    devices: &'a [u8],
+    host: Range,
+    bus: u8,
+    space: Space,
+    a: u64,
+) -> Report
+    ensures { λ r. ⌜ r ≡ firstIn (driven (treeOf count (now (words .entry))) host (images (now (bridges .entry)) (now (devices .entry))) bus space a) (nodesOn (treeOf count (now (words .entry))) bus) ⌝ }
+{
+    let mut i: u8 = 0;
+    while i < count {
+        if parent_at(words, i) == bus {
+            let r = driven_by(words, count, bridges, devices, host, bus, space, a, i);
+            if is_fault(r) {
+                return r;
+            }
+            i += 1;
+        } else {
+            i += 1;
+        }
+    }
+    Report::Pass
+}
+
+// All agents of a bus as drivers.
+fn agents_drive<'a>(
+    words: &[u64; 192],
+    count: u8,
+    bridges: &'a [u8],
+    devices: &'a [u8],
+    host: Range,
+    bus: u8,
+    space: Space,
+    a: u64,
+) -> Report
+    ensures { λ r. ⌜ r ≡ firstIn (driven (treeOf count (now (words .entry))) host (images (now (bridges .entry)) (now (devices .entry))) bus space a) (agents (treeOf count (now (words .entry))) bus) ⌝ }
+{
+    let r = driven_by(words, count, bridges, devices, host, bus, space, a, bus);
+    if is_fault(r) {
+        return r;
+    }
+    nodes_drive(words, count, bridges, devices, host, bus, space, a)
+}
+
+// The first driver of a space: of configuration the holder alone.
+fn first_driver<'a>(
+    words: &[u64; 192],
+    count: u8,
+    bridges: &'a [u8],
+    devices: &'a [u8],
+    host: Range,
+    bus: u8,
+    space: Space,
+    a: u64,
+) -> Report
+    ensures { λ r. ⌜ r ≡ atValue (treeOf count (now (words .entry))) host (images (now (bridges .entry)) (now (devices .entry))) bus space a ⌝ }
+{
+    match space {
+        Space::Memory => agents_drive(words, count, bridges, devices, host, bus, Space::Memory, a),
+        Space::Io => agents_drive(words, count, bridges, devices, host, bus, Space::Io, a),
+        Space::Configuration => driven_by(
+            words,
+            count,
+            bridges,
+            devices,
+            host,
+            bus,
+            Space::Configuration,
+            a,
+            bus,
+        ),
+    }
+}
+
+// What is found at an address, where no more than `claiming` agents claim: drivers are tried only if there are two.
+pub fn found_at<'a>(
+    words: &[u64; 192],
+    count: u8,
+    bridges: &'a [u8],
+    devices: &'a [u8],
+    host: Range,
+    bus: u8,
+    space: Space,
+    a: u64,
+    claiming: usize,
+) -> Report
+    requires { ⌜ (claiming ≤ 1 → atValue (treeOf count (now words)) host (images (now bridges) (now devices)) bus space a ≡ Pass) ⌝ }
+    ensures { λ r. ⌜ r ≡ atValue (treeOf count (now (words .entry))) host (images (now (bridges .entry)) (now (devices .entry))) bus space a ⌝ }
+{
+    if claiming <= 1 {
+        return Report::Pass;
+    }
+    first_driver(words, count, bridges, devices, host, bus, space, a)
+}

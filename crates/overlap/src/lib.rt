@@ -1,0 +1,21 @@
+// The check: whether two agents of a bus claim what a third one drives.
+
+pub mod agents;
+pub mod buses;
+pub mod drivers;
+pub mod sweep;
+
+use claims::Space;
+
+// What a check says: it passes, or shows the first fault.
+pub enum Report {
+    Pass,
+    Fault {
+        holder: u8,
+        space: Space,
+        value: u64,
+        driver: u8,
+        first: u8,
+        second: u8,
+    },
+}
