@@ -3,22 +3,20 @@
 use mathlib.Core.Path.{_≡_, refl, sym, ap, ap₂, _∙_, fun-ext}
 use mathlib.Core.Bool.{Bool, true, false, not, cond}
 use mathlib.Core.List.{List}
-use Prim.Native.Nat.{ℕ, _+_, _*_, _/_, _%_, _<_, _≤_}
+use Prim.Native.Nat.{ℕ, _+_, _*_, _<_, _≤_}
 use native.Mathlib.Omega.{arith}
 use native.Mathlib.Nat.{not-suc-le-zero}
 use borrow.Author.Count.{below-more}
 use borrow.Author.Tests.{lt-ltb, le-ltb, ltb-true, ltb-false}
 use lib.Dec.{ltb}
-use lib.ListN.{length, getD, set, length-set}
-use lib.Seq.{getD-set-same, getD-set-other}
-use Rattle.rack.specs.declared.Kind.{Kind}
-use Rattle.rack.specs.declared.Kind.the-variants.{Device, Bridge}
+use lib.ListN.{length, getD, length-set}
 use Rattle.rack.specs.declared.Node.{Node}
 use Rattle.rack.specs.declared.Rack.{Rack}
-use Rattle.rack.specs.Node.{kindNumber, isBridge, spelt, noNode}
-use Rattle.rack.specs.CountLaws.{count-zero, count-again, count-le}
+use Rattle.rack.specs.Node.{isBridge, spelt, noNode}
+use Rattle.rack.specs.CountLaws.{count-zero, count-again}
 use Rattle.rack.specs.Tree.{nodeOf, placeOf, bridgesBelow, devicesBelow, tree}
-use Rattle.rack.specs.Table.{Bytes, Low, High, kindFrom, nodeFrom, nodeAt, placeAt, treeOf}
+use Rattle.rack.specs.Table.{Low, High, nodeAt, placeAt, treeOf}
+use Rattle.rack.proofs.Words.{wordsWith, kept-low, kept-high, low-in, high-in, place-is, node-back}
 
 pub record Filled (rack : Rack) (words : List ℕ) (bridges devices i : ℕ) : Type 0 where
   pub in-range : i ≤ 96
@@ -48,29 +46,9 @@ no-node : (rack : Rack) (i : ℕ) → 96 ≤ i → nodeOf rack i ≡ spelt noNod
 unfolding nodeOf
 no-node rack i h = rw (le-ltb i 96 h)
 
-module _ (words : List ℕ) (i lo hi : ℕ) (long : length words ≡ 192) (h : i < 96) where
-  kept : (k : ℕ) → k < 2 * i → getD (set (set words (2 * i) lo) (2 * i + 1) hi) k 0 ≡ getD words k 0
-  kept k hk =
-      getD-set-other (set words (2 * i) lo) (2 * i + 1) k hi 0 (λ e. omega arith)
-      ∙ getD-set-other words (2 * i) k lo 0 (λ e. omega arith)
-
-  low-in : getD (set (set words (2 * i) lo) (2 * i + 1) hi) (2 * i) 0 ≡ lo
-  low-in =
-      getD-set-other (set words (2 * i) lo) (2 * i + 1) (2 * i) hi 0 (λ e. omega arith)
-      ∙ getD-set-same words (2 * i) lo 0 (omega arith)
-
-  high-in : getD (set (set words (2 * i) lo) (2 * i + 1) hi) (2 * i + 1) 0 ≡ hi
-  high-in = getD-set-same (set words (2 * i) lo) (2 * i + 1) hi 0 (simp length-set (omega arith))
-
 not-cond : (b : Bool) → _≡_ {A = ℕ} (cond b 0 1) (cond (not b) 1 0)
 not-cond true = refl
 not-cond false = refl
-
-place-is : (rack : Rack) (i : ℕ) {bridges devices p : ℕ} {b : Bool} → bridges ≡ bridgesBelow (nodeOf rack) i
-    → devices ≡ devicesBelow (nodeOf rack) i → b ≡ isBridge (nodeOf rack i .kind) → p ≡ cond b bridges devices
-    → placeOf (nodeOf rack) i ≡ p
-unfolding placeOf
-place-is rack i eb ed b ep = rw (ep, b, eb, ed)
 
 -- one node more
 pub filled-more : (rack : Rack) (words : List ℕ) {bridges devices i lo hi p vb vd : ℕ} {b : Bool} → i < 96
@@ -80,7 +58,7 @@ pub filled-more : (rack : Rack) (words : List ℕ) {bridges devices i lo hi p vb
     → Low (getD (rack .nodes) i noNode) p lo
     → High (getD (rack .nodes) i noNode) hi
     → vb ≡ cond b 1 0 → vd ≡ cond b 0 1
-    → Filled rack (set (set words (2 * i) lo) (2 * i + 1) hi) (bridges + vb) (devices + vd) (i + 1)
+    → Filled rack (wordsWith words i lo hi) (bridges + vb) (devices + vd) (i + 1)
 filled-more rack words {bridges} {devices} {i} {lo} {hi} {p} {vb} {vd} {b} h f eb ep el eh evb evd =
     let n : nodeOf rack i ≡ spelt (getD (rack .nodes) i noNode) = node-is rack i h in
     let b-is : b ≡ isBridge (nodeOf rack i .kind) = rw n eb in
@@ -90,25 +68,14 @@ filled-more rack words {bridges} {devices} {i} {lo} {hi} {p} {vb} {vd} {b} h f e
       bridges-are = count-again (λ j. isBridge (nodeOf rack j .kind)) i (f .bridges-are) b-is evb;
       devices-are = count-again (λ j. not (isBridge (nodeOf rack j .kind))) i (f .devices-are) (ap not b-is) (evd ∙ not-cond b);
       low =
-          below-more (λ k. Low (nodeOf rack k) (placeOf (nodeOf rack) k) (getD (set (set words (2 * i) lo) (2 * i + 1) hi) (2 * k) 0)) i
-          (λ k hk. rw (kept words i lo hi (f .long) h (2 * k) (omega arith)) (f .low k hk))
-          (rw (low-in words i lo hi (f .long) h, place-is rack i (f .bridges-are) (f .devices-are) b-is ep, n) el);
+          below-more (λ k. Low (nodeOf rack k) (placeOf (nodeOf rack) k) (getD (wordsWith words i lo hi) (2 * k) 0)) i
+          (λ k hk. rw (kept-low words i lo hi k (λ e. omega arith)) (f .low k hk))
+          (rw (low-in words i lo hi (f .long) h, place-is (nodeOf rack) i (f .bridges-are) (f .devices-are) b-is ep, n) el);
       high =
-          below-more (λ k. High (nodeOf rack k) (getD (set (set words (2 * i) lo) (2 * i + 1) hi) (2 * k + 1) 0)) i
-          (λ k hk. rw (kept words i lo hi (f .long) h (2 * k + 1) (omega arith)) (f .high k hk))
+          below-more (λ k. High (nodeOf rack k) (getD (wordsWith words i lo hi) (2 * k + 1) 0)) i
+          (λ k hk. rw (kept-high words i lo hi k (λ e. omega arith)) (f .high k hk))
           (rw (high-in words i lo hi (f .long) h, n) eh);
     }
-
-kind-back : (k : Kind) → kindFrom (kindNumber k) ≡ k
-kind-back Device = refl
-kind-back Bridge = refl
-
--- the node that its two words hold
-node-back : (n : Node) (place lo hi : ℕ) → Low n place lo → High n hi → nodeFrom lo hi ≡ spelt n
-node-back n place lo hi l h =
-    let v : hi / 0x10000 % 65536 ≡ n .«vendor_id» = omega (arith, h .byte-2, h .byte-3) in
-    let d : hi / 0x100000000 % 65536 ≡ n .«device_id» = omega (arith, h .byte-4, h .byte-5) in
-    rw (l .byte-0, kind-back, l .byte-1, l .byte-2, l .byte-4, l .byte-5, l .byte-6, l .byte-7, h .byte-0, h .byte-1, v, d)
 
 module _ (rack : Rack) (words : List ℕ) {bridges devices i : ℕ} (f : Filled rack words bridges devices i) (end : 96 ≤ i) where
   node-same : (k : ℕ) (b : Bool) → ltb k 96 ≡ b → nodeAt words k ≡ nodeOf rack k

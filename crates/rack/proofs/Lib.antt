@@ -1,3 +1,5 @@
 -- What the proofs of several functions use.
+mod Words
 mod Filled
+mod Grown
 mod Few

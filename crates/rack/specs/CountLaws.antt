@@ -25,6 +25,12 @@ unfolding countOf
 count-le f zero = omega arith
 count-le f (suc n) = omega (arith, count-le f n, cond-le (f n) 1 0 1 (lit≤ tt) (lit≤ tt))
 
+-- tests that agree below n count the same
+pub count-same : (f g : ℕ → Bool) (n : ℕ) → ((i : ℕ) → i < n → f i ≡ g i) → countOf f n ≡ countOf g n
+unfolding countOf
+count-same f g zero s = refl
+count-same f g (suc n) s = rw (count-same f g n (λ i h. s i (omega arith)), s n (omega arith))
+
 -- a test and its opposite count every number
 pub count-both : (f : ℕ → Bool) (n : ℕ) → countOf f n + countOf (λ i. not (f i)) n ≡ n
 unfolding countOf

@@ -10,3 +10,5 @@ pub mod Placed
 pub mod Refusal
 pub mod RefusalLaws
 pub mod Table
+pub mod Grow
+pub mod GrowLaws

@@ -47,3 +47,13 @@ found f n e = let s = from-found f 0 n e in (s .0, omega (arith, s .1), s .2)
 -- and the converse
 pub found-at : (f : ℕ → Bool) (n k : ℕ) → k < n → f k ≡ true → some f n ≡ true
 found-at f n k h e = not-fails (some f n) (λ q. false≢true (sym (none f n q k h) ∙ e))
+
+from-same : (f g : ℕ → Bool) (i left : ℕ) → ((k : ℕ) → i ≤ k → k < i + left → f k ≡ g k) → someFrom f i left ≡ someFrom g i left
+unfolding someFrom
+from-same f g i zero s = refl
+from-same f g i (suc left) s =
+    rw (s i (omega arith) (omega arith), from-same f g (i + 1) left (λ k a b. s k (omega arith) (omega arith)))
+
+-- tests that agree below n are searched alike
+pub some-same : (f g : ℕ → Bool) (n : ℕ) → ((k : ℕ) → k < n → f k ≡ g k) → some f n ≡ some g n
+some-same f g n s = from-same f g 0 n (λ k a b. s k (omega arith))

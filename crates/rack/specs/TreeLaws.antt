@@ -1,12 +1,13 @@
--- Laws of how many bridges and devices there are.
+-- Laws of how many bridges and devices there are, and of places.
 -- Assumes nothing.
-use mathlib.Core.Path.{_≡_}
-use Prim.Native.Nat.{ℕ, _-_, _≤_}
+use mathlib.Core.Path.{_≡_, ap}
+use mathlib.Core.Bool.{not}
+use Prim.Native.Nat.{ℕ, _-_, _≤_, _<_}
 use native.Mathlib.Omega.{arith}
 use Rattle.rack.specs.declared.Node.{Node}
 use Rattle.rack.specs.Node.{isBridge}
-use Rattle.rack.specs.CountLaws.{count-both, count-le}
-use Rattle.rack.specs.Tree.{bridgesBelow, devicesBelow}
+use Rattle.rack.specs.CountLaws.{count-both, count-le, count-same}
+use Rattle.rack.specs.Tree.{bridgesBelow, devicesBelow, placeOf}
 
 -- the devices are the nodes that are no bridges
 pub devices-left : (node : ℕ → Node) (n : ℕ) → devicesBelow node n ≡ n - bridgesBelow node n
@@ -14,3 +15,18 @@ devices-left node n = omega (arith, count-both (λ i. isBridge (node i .kind)) n
 
 pub below-le : (node : ℕ → Node) (n : ℕ) → bridgesBelow node n ≤ n
 below-le node n = count-le (λ i. isBridge (node i .kind)) n
+
+-- nodes that are the same below n: as many bridges and as many devices
+pub bridges-same : (f g : ℕ → Node) (n : ℕ) → ((i : ℕ) → i < n → f i ≡ g i) → bridgesBelow f n ≡ bridgesBelow g n
+bridges-same f g n s =
+    count-same (λ i. isBridge (f i .kind)) (λ i. isBridge (g i .kind)) n (λ i h. ap (λ (m : Node). isBridge (m .kind)) (s i h))
+
+pub devices-same : (f g : ℕ → Node) (n : ℕ) → ((i : ℕ) → i < n → f i ≡ g i) → devicesBelow f n ≡ devicesBelow g n
+devices-same f g n s =
+    count-same (λ i. not (isBridge (f i .kind))) (λ i. not (isBridge (g i .kind))) n (λ i h. ap (λ (m : Node). not (isBridge (m .kind))) (s i h))
+
+-- nodes that are the same to i: the place of i
+pub place-same : (f g : ℕ → Node) (i : ℕ) → ((j : ℕ) → j ≤ i → f j ≡ g j) → placeOf f i ≡ placeOf g i
+unfolding placeOf
+place-same f g i s =
+    rw (s i (omega arith), bridges-same f g i (λ j h. s j (omega arith)), devices-same f g i (λ j h. s j (omega arith)))

@@ -27,7 +27,7 @@ fn word_of(a: u8, b: u8, c: u8, d: u8, e: u8, f: u8, g: u8, h: u8) -> u64
         + a as u64
 }
 
-fn low_word(n: Node, place: u8) -> u64
+pub fn low_word(n: Node, place: u8) -> u64
     ensures { λ r. ⌜ Low n place r ⌝ }
 {
     let r = n.regions[0];
@@ -44,7 +44,7 @@ fn low_word(n: Node, place: u8) -> u64
     )
 }
 
-fn high_word(n: Node) -> u64
+pub fn high_word(n: Node) -> u64
     ensures { λ r. ⌜ High n r ⌝ }
 {
     let r = n.regions[2];
@@ -150,7 +150,7 @@ pub fn bridges_below(words: &[u64; 192], n: usize) -> usize
 }
 
 // A number by a test.
-fn pick(yes: bool, a: u8, b: u8) -> u8
+pub fn pick(yes: bool, a: u8, b: u8) -> u8
     ensures { λ r. ⌜ r ≡ cond yes a b ⌝ }
 {
     if yes { a } else { b }

@@ -5,3 +5,4 @@ pub mod Sound
 pub mod Places
 pub mod Depths
 pub mod Agents
+pub mod Grown

@@ -1,8 +1,8 @@
--- The places of the nodes of an accepted rack in their images.
+-- The places of the nodes of a rack in their images.
 -- Assumes nothing.
 use mathlib.Core.Path.{_≡_, refl, sym, ap, _∙_}
-use mathlib.Core.Bool.{Bool, true, false, not, cond}
-use Prim.Native.Nat.{ℕ, _≤_, _<_}
+use mathlib.Core.Bool.{Bool, true, false, not}
+use Prim.Native.Nat.{ℕ, _<_}
 use native.Mathlib.Omega.{arith}
 use lib.Dec.{ltb}
 use borrow.Author.Tests.{lt-ltb, ltb-true, ltb-false}
@@ -11,7 +11,7 @@ use Rattle.rack.specs.declared.Rack.{Rack}
 use Rattle.rack.specs.Node.{isBridge}
 use Rattle.rack.specs.Count.{countOf}
 use Rattle.rack.specs.Bools.{tested}
-use Rattle.rack.specs.Tree.{Tree, placeOf, nodeOf, tree}
+use Rattle.rack.specs.Tree.{Tree, placeOf, tree}
 use Rattle.rack.specs.Placed.{Placed, imageCount}
 use Rattle.rack.specs.Refusal.{rackRefusal}
 use Rattle.rack_laws.specs.Counts.{count-lt}
@@ -35,18 +35,16 @@ image-count : (t : Tree) (i : ℕ) (b : Bool) → isBridge (t .node i .kind) ≡
 image-count t i true e = rw e
 image-count t i false e = rw e
 
--- each node has a place of its own in its image
-pub accepted-placed : (rack : Rack) → rackRefusal (tree rack) ≡ 0 → Placed (tree rack)
-accepted-placed rack ok = record { below = below; apart = apart }
+-- the place of each node of a tree is the one that the nodes before it leave it
+abbrev pub PlacedBy : Tree → Type 0
+PlacedBy t = (i : ℕ) → i < t .count → t .place i ≡ placeOf (t .node) i
+
+-- then each node has a place of its own in its image
+pub by-placed : (t : Tree) → PlacedBy t → Placed t
+by-placed t by = record { below = below; apart = apart }
   where
-    t : Tree
-    t = tree rack
-
-    within : (i : ℕ) → i < t .count → ltb i 96 ≡ true
-    within i h = lt-ltb i 96 (omega (arith, nodes-le t ok))
-
     place-is : (i : ℕ) (b : Bool) → i < t .count → isBridge (t .node i .kind) ≡ b → t .place i ≡ countOf (of (t .node) b) i
-    place-is i b h e = rw (within i h) (place-count (t .node) i b e)
+    place-is i b h e = by i h ∙ place-count (t .node) i b e
 
     below : (i : ℕ) → i < t .count → t .place i < imageCount t (t .node i .kind)
     below i h =
@@ -66,3 +64,7 @@ accepted-placed rack ok = record { below = below; apart = apart }
         (λ l.
         tested (ltb j i) (λ r. absurd (earlier j i (ltb-true j i r) hj hi (sym k) (sym e)))
         (λ r. omega (arith, ltb-false i j l, ltb-false j i r)))
+
+-- as each node of an accepted rack has
+pub accepted-placed : (rack : Rack) → rackRefusal (tree rack) ≡ 0 → Placed (tree rack)
+accepted-placed rack ok = by-placed (tree rack) (λ i h. rw (lt-ltb i 96 (omega (arith, nodes-le (tree rack) ok))))

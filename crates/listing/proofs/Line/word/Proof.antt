@@ -1,0 +1,52 @@
+use Prim.Native.Nat.{_≤_, _+_, _-_}
+use mathlib.Core.Path.{_≡_}
+use native.Mathlib.Omega.{arith}
+use lib.ListN.{length, take}
+use Rattle.listing.specs.Added.{Added, added-none}
+use Rattle.listing.proofs.Copied.{copied-more, copied-all}
+use Rattle.listing.proofs.Line.word.Statement.{statement}
+use Rattle.listing.proofs.Line.word.Tie as tie
+
+abbrev Inv-loop : tie.InvT-loop
+Inv-loop src l₀ i₀ l i = (i ≤ length src) × (l .len ≡ l₀ .len + i) × (Added l₀ (take i src) l)
+
+abbrev μ-loop : tie.MeasureT-loop
+μ-loop src l₀ i₀ l i = length src - i
+
+loop-holds : tie.Need-loop-holds Inv-loop μ-loop
+loop-holds c = (omega arith, omega arith, added-none _)
+
+shared-slice-read-byte : tie.Need-shared-slice-read-byte Inv-loop μ-loop
+shared-slice-read-byte c = omega arith
+
+byte-requires : tie.Need-byte-requires Inv-loop μ-loop
+byte-requires c κs = omega arith
+
+add-i : tie.Need-add-i Inv-loop μ-loop
+add-i c = omega arith
+
+loop-less : tie.Need-loop-less Inv-loop μ-loop
+loop-less c = omega arith
+
+loop-again : tie.Need-loop-again Inv-loop μ-loop
+loop-again c =
+    let at-test = c .before .before in
+    let at-loop = at-test .before in
+    (omega arith, omega (arith, c .byte .ensures .next), copied-more _ _ _ (at-test .loop-test .taken) (at-loop .loop .inv .2) (c .byte .ensures))
+
+returns : tie.Need-returns Inv-loop μ-loop
+returns c = copied-all _ _ _ (c .loop-test .left) (c .before .loop .inv .2)
+
+pub word-spec : {M : Type 1} → statement M
+word-spec =
+    tie.close
+    (tie.spec
+    Inv-loop
+    μ-loop
+    loop-holds
+    shared-slice-read-byte
+    byte-requires
+    add-i
+    loop-less
+    loop-again
+    returns)

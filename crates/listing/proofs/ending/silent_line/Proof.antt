@@ -1,0 +1,20 @@
+use Rattle.listing.specs.Line.{spaced, endingFields}
+use borrow.Author.Needs.{needs}
+use Rattle.listing.proofs.ending.silent_line.Statement.{statement}
+use Rattle.listing.proofs.ending.silent_line.Tie as tie
+
+slice-aggregate-begun : tie.Need-slice-aggregate-begun
+slice-aggregate-begun c = search needs
+
+begun-requires : tie.Need-begun-requires
+begun-requires c κs = search needs
+
+byte-requires : tie.Need-byte-requires
+byte-requires c κs = search needs
+
+returns : tie.Need-returns
+unfolding spaced endingFields
+returns c = (simp (c .byte .ensures .text, c .before .begun .ensures .0), search needs)
+
+pub silent-line-spec : {M : Type 1} → statement M
+silent-line-spec = tie.close (tie.spec slice-aggregate-begun begun-requires byte-requires returns)

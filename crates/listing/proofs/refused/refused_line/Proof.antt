@@ -1,0 +1,56 @@
+use Rattle.listing.specs.Line.{spaced}
+use borrow.Author.Needs.{needs}
+use Rattle.listing.proofs.refused.refused_line.Statement.{statement}
+use Rattle.listing.proofs.refused.refused_line.Tie as tie
+
+new-requires : tie.Need-new-requires
+new-requires c κs = search needs
+
+slice-aggregate-word : tie.Need-slice-aggregate-word
+slice-aggregate-word c = search needs
+
+word-requires : tie.Need-word-requires
+word-requires c κs = search needs
+
+decimal-field-requires : tie.Need-decimal-field-requires
+decimal-field-requires c κs = search needs
+
+slice-aggregate-word-field : tie.Need-slice-aggregate-word-field
+slice-aggregate-word-field c = search needs
+
+word-field-requires : tie.Need-word-field-requires
+word-field-requires c κs = search needs
+
+decimal-field-requires-2 : tie.Need-decimal-field-requires-2
+decimal-field-requires-2 c κs = search needs
+
+byte-requires : tie.Need-byte-requires
+byte-requires c κs = search needs
+
+returns : tie.Need-returns
+unfolding spaced
+returns c = (
+  simp (
+    c .byte .ensures .text,
+    c .before .decimal-field2 .ensures .0 .text,
+    c .before .before .word-field .ensures .text,
+    c .before .before .before .before .decimal-field .ensures .0 .text,
+    c .before .before .before .before .before .word .ensures .text,
+    c .before .before .before .before .before .before .before .new .ensures .0,
+  ),
+  search needs,
+)
+
+pub refused-line-spec : {M : Type 1} → statement M
+refused-line-spec =
+    tie.close
+    (tie.spec
+    new-requires
+    slice-aggregate-word
+    word-requires
+    decimal-field-requires
+    slice-aggregate-word-field
+    word-field-requires
+    decimal-field-requires-2
+    byte-requires
+    returns)

@@ -1,0 +1,113 @@
+// The line of an access: the event number and how the access ended.
+ghost use mathlib.Core.Path.{_≡_};
+ghost use mathlib.Core.List.{_∷_};
+ghost use Prim.Native.Nat.{_+_, _≤_};
+ghost use Rattle.listing.specs.Line.{textOf, outcomeWord, endingLine};
+ghost use Rattle.listing.specs.Added.{Added};
+use crate::Line;
+use crate::field::begun;
+use routes::Ending;
+use routes::Outcome;
+
+fn data_line(n: u32, crossings: u32, value: u32) -> Line
+    ensures { λ r. ⌜ (textOf r ≡ endingLine n (Ending.Data crossings value)) × (r .len ≤ 96) ⌝ }
+{
+    begun(n, b"data")
+        .decimal_field(crossings)
+        .hex_field(8, value as u64)
+        .byte(b'\n')
+}
+
+fn stored_line(n: u32, crossings: u32) -> Line
+    ensures { λ r. ⌜ (textOf r ≡ endingLine n (Ending.Stored crossings)) × (r .len ≤ 96) ⌝ }
+{
+    begun(n, b"stored").decimal_field(crossings).byte(b'\n')
+}
+
+fn owner_line(n: u32, crossings: u32, node: u8, region: u8, offset: u64) -> Line
+    ensures { λ r. ⌜ (textOf r ≡ endingLine n (Ending.Owner crossings node region offset)) × (r .len ≤ 96) ⌝ }
+{
+    begun(n, b"owner")
+        .decimal_field(crossings)
+        .decimal_field(node as u32)
+        .decimal_field(region as u32)
+        .hex_field(16, offset)
+        .byte(b'\n')
+}
+
+fn host_line(n: u32, crossings: u32, offset: u64) -> Line
+    ensures { λ r. ⌜ (textOf r ≡ endingLine n (Ending.Host crossings offset)) × (r .len ≤ 96) ⌝ }
+{
+    begun(n, b"host")
+        .decimal_field(crossings)
+        .hex_field(16, offset)
+        .byte(b'\n')
+}
+
+impl Line {
+    fn outcome_field(self, outcome: Outcome) -> Self
+        requires { ⌜ self .len + 7 ≤ 96 ⌝ }
+        ensures { λ r. ⌜ (Added self (32 ∷ outcomeWord outcome) r) × (r .len ≤ self .len + 7) ⌝ }
+    {
+        match outcome {
+            Outcome::Abort => self.word_field(b"abort"),
+            Outcome::Done => self.word_field(b"done"),
+            Outcome::Target => self.word_field(b"target"),
+        }
+    }
+}
+
+fn unclaimed_line(n: u32, crossings: u32, holder: u8, outcome: Outcome) -> Line
+    ensures { λ r. ⌜ (textOf r ≡ endingLine n (Ending.Unclaimed crossings holder outcome)) × (r .len ≤ 96) ⌝ }
+{
+    begun(n, b"unclaimed")
+        .decimal_field(crossings)
+        .decimal_field(holder as u32)
+        .outcome_field(outcome)
+        .byte(b'\n')
+}
+
+fn clash_line(n: u32, crossings: u32, holder: u8, first: u8, second: u8) -> Line
+    ensures { λ r. ⌜ (textOf r ≡ endingLine n (Ending.Clash crossings holder first second)) × (r .len ≤ 96) ⌝ }
+{
+    begun(n, b"clash")
+        .decimal_field(crossings)
+        .decimal_field(holder as u32)
+        .decimal_field(first as u32)
+        .decimal_field(second as u32)
+        .byte(b'\n')
+}
+
+fn silent_line(n: u32) -> Line
+    ensures { λ r. ⌜ (textOf r ≡ endingLine n Ending.Silent) × (r .len ≤ 96) ⌝ }
+{
+    begun(n, b"silent").byte(b'\n')
+}
+
+pub fn ending_line(n: u32, e: Ending) -> Line
+    ensures { λ r. ⌜ (textOf r ≡ endingLine n e) × (r .len ≤ 96) ⌝ }
+{
+    match e {
+        Ending::Data { crossings, value } => data_line(n, crossings, value),
+        Ending::Stored { crossings } => stored_line(n, crossings),
+        Ending::Owner {
+            crossings,
+            node,
+            region,
+            offset,
+        } => owner_line(n, crossings, node, region, offset),
+        Ending::Host { crossings, offset } => host_line(n, crossings, offset),
+        Ending::Unclaimed {
+            crossings,
+            holder,
+            outcome,
+        } => unclaimed_line(n, crossings, holder, outcome),
+        Ending::Clash {
+            crossings,
+            holder,
+            first,
+            second,
+        } => clash_line(n, crossings, holder, first, second),
+        Ending::Silent => silent_line(n),
+    }
+}

@@ -1,0 +1,12 @@
+// The line of each answer, byte for byte as document 01, 'The program', prints it.
+pub mod ending;
+mod field;
+pub mod refused;
+pub mod report;
+mod text;
+
+// A line is its first `len` bytes.
+pub struct Line {
+    pub bytes: [u8; 96],
+    pub len: usize,
+}

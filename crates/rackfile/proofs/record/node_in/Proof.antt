@@ -1,0 +1,80 @@
+use Rattle.rackfile.specs.Record.{nodeIn}
+use borrow.Author.Tests.{eq-eqb, ne-eqb}
+use borrow.Author.Needs.{needs}
+use Rattle.rackfile.proofs.record.node_in.Statement.{statement}
+use Rattle.rackfile.proofs.record.node_in.Tie as tie
+
+add-byte-at : tie.Need-add-byte-at
+add-byte-at c = search needs
+
+byte-at-requires : tie.Need-byte-at-requires
+byte-at-requires c κs = search needs
+
+add-byte-at-2 : tie.Need-add-byte-at-2
+add-byte-at-2 c = search needs
+
+byte-at-requires-2 : tie.Need-byte-at-requires-2
+byte-at-requires-2 c κs = search needs
+
+add-word-in : tie.Need-add-word-in
+add-word-in c = search needs
+
+word-in-requires : tie.Need-word-in-requires
+word-in-requires c κs = search needs
+
+add-word-in-2 : tie.Need-add-word-in-2
+add-word-in-2 c = search needs
+
+word-in-requires-2 : tie.Need-word-in-requires-2
+word-in-requires-2 c κs = search needs
+
+byte-at-requires-3 : tie.Need-byte-at-requires-3
+byte-at-requires-3 c κs = search needs
+
+returns : tie.Need-returns
+unfolding nodeIn
+returns c = simp (← c .before .before .before .before .before .byte-at .ensures, ← c .before .before .before .before .byte-at2 .ensures, ← c .before .before .before .word-in .ensures, ← c .before .before .word-in2 .ensures, ← c .before .byte-at3 .ensures, eq-eqb _ _ (c .if1 .taken))
+
+add-region-at : tie.Need-add-region-at
+add-region-at c = search needs
+
+region-at-requires : tie.Need-region-at-requires
+region-at-requires c κs = search needs
+
+add-region-at-2 : tie.Need-add-region-at-2
+add-region-at-2 c = search needs
+
+region-at-requires-2 : tie.Need-region-at-requires-2
+region-at-requires-2 c κs = search needs
+
+add-region-at-3 : tie.Need-add-region-at-3
+add-region-at-3 c = search needs
+
+region-at-requires-3 : tie.Need-region-at-requires-3
+region-at-requires-3 c κs = search needs
+
+returns-2 : tie.Need-returns-2
+unfolding nodeIn
+returns-2 c = simp (← c .before .before .before .before .before .before .before .before .byte-at .ensures, ← c .before .before .before .before .before .before .before .byte-at2 .ensures, ← c .before .before .before .before .before .before .word-in .ensures, ← c .before .before .before .before .before .word-in2 .ensures, ← c .before .before .before .before .byte-at3 .ensures, ne-eqb _ _ (c .before .before .before .if1 .left), ← c .before .before .region-at .ensures, ← c .before .region-at2 .ensures, ← c .region-at3 .ensures)
+
+pub node-in-spec : {M : Type 1} → statement M
+node-in-spec =
+    tie.close
+    (tie.spec
+    add-byte-at
+    byte-at-requires
+    add-byte-at-2
+    byte-at-requires-2
+    add-word-in
+    word-in-requires
+    add-word-in-2
+    word-in-requires-2
+    byte-at-requires-3
+    returns
+    add-region-at
+    region-at-requires
+    add-region-at-2
+    region-at-requires-2
+    add-region-at-3
+    region-at-requires-3
+    returns-2)

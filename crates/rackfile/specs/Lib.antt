@@ -1,0 +1,14 @@
+pub mod Number
+pub mod Record
+pub mod RecordLaws
+pub mod Events
+pub mod Load
+pub mod Loads
+pub mod LoadsLaws
+pub mod Turns
+pub mod Cases
+pub mod LoadLaws
+pub mod Records
+pub mod RecordFaults
+pub mod Walks
+pub mod Refused
