@@ -12,7 +12,7 @@ use Rattle.rack.specs.Tree.{Tree}
 use Rattle.rack.specs.Grow.{noTree}
 use Rattle.rackfile.specs.Number.{byteIn}
 use Rattle.rackfile.specs.Record.{sizeOf, noKind, cutShort, isHost}
-use Rattle.rackfile.specs.Load.{Loading, refused, firstFault, rackFrom, rackIn, rackAlone, eventsFrom, fileIn}
+use Rattle.rackfile.specs.Load.{Loading, refused, firstFault, rackFrom, rackIn, eventFirst, rackLater, rackAlone, eventsFrom, fileIn}
 
 -- equal readings are refused alike
 pub refusal-same : {d e : Loading} → d ≡ e → d .refusal ≡ 0 → e .refusal ≡ 0
@@ -56,18 +56,27 @@ module _ (b : List ℕ) where
       let k : sizeOf (byteIn b 0) ≡ 17 = ap sizeOf (eqb-true (byteIn b 0) 1 (host-there z)) in
       omega (arith, k, ltb-false (length b) (0 + sizeOf (byteIn b 0)) (host-whole z .1))
 
-  -- a rack without events
-  pub alone-refused : (rackIn b .refusal ≡ 0 → ⊥) → rackAlone b ≡ rackIn b
-  unfolding rackAlone
-  alone-refused z = rw (ne-eqb (rackIn b .refusal) 0 z)
+  -- a rack without events behind its host
+  pub later-refused : (rackIn b .refusal ≡ 0 → ⊥) → rackLater b ≡ rackIn b
+  unfolding rackLater
+  later-refused z = rw (ne-eqb (rackIn b .refusal) 0 z)
 
-  pub alone-event : rackIn b .refusal ≡ 0 → rackIn b .offset < length b → rackAlone b ≡ refused 2 (rackIn b .offset)
-  unfolding rackAlone
-  alone-event z h = rw (eq-eqb (rackIn b .refusal) 0 z, lt-ltb (rackIn b .offset) (length b) h)
+  pub later-event : rackIn b .refusal ≡ 0 → rackIn b .offset < length b → rackLater b ≡ refused 2 (rackIn b .offset)
+  unfolding rackLater
+  later-event z h = rw (eq-eqb (rackIn b .refusal) 0 z, lt-ltb (rackIn b .offset) (length b) h)
 
-  pub alone-rack : rackIn b .refusal ≡ 0 → length b ≤ rackIn b .offset → rackAlone b ≡ rackIn b
+  pub later-rack : rackIn b .refusal ≡ 0 → length b ≤ rackIn b .offset → rackLater b ≡ rackIn b
+  unfolding rackLater
+  later-rack z h = rw (eq-eqb (rackIn b .refusal) 0 z, le-ltb (rackIn b .offset) (length b) h)
+
+  -- nor in its place
+  pub alone-first : eventFirst b ≡ true → rackAlone b ≡ refused 2 0
   unfolding rackAlone
-  alone-rack z h = rw (eq-eqb (rackIn b .refusal) 0 z, le-ltb (rackIn b .offset) (length b) h)
+  alone-first e = rw e
+
+  pub alone-later : eventFirst b ≡ false → rackAlone b ≡ rackLater b
+  unfolding rackAlone
+  alone-later e = rw e
 
   -- the events of a file, behind its rack
   abbrev pub eventsIn : Loading

@@ -1,7 +1,7 @@
 -- The reading of a rack file: its rack and where its events begin, or the number and the offset of its first faulty record.
 -- Assumes nothing: these are definitions.
 use Prim.Native.Nat.{ℕ, zero, suc, _+_}
-use mathlib.Core.Bool.{Bool, _||_, cond}
+use mathlib.Core.Bool.{Bool, _&&_, _||_, cond}
 use mathlib.Core.List.{List}
 use lib.Dec.{leb, ltb, eqb}
 use lib.ListN.{length}
@@ -62,12 +62,19 @@ rackIn b =
     (cond (eqb (length b) 0) (refused 4 0)
     (cond (eqb (firstFault b) 0) (rackFrom (length b) b (sizeOf 1) noTree) (refused (firstFault b) 0)))
 
--- 01: 'The two C calls take the rack records as bytes: 1 to 10 as for a file, an event kind there being 2'
-unfoldable pub rackAlone : List ℕ → Loading
-rackAlone b =
+-- 01: 'The two C calls take the rack records as bytes: 1 to 10 as for a file, an event kind there being 2': behind the host
+unfoldable pub rackLater : List ℕ → Loading
+rackLater b =
     cond (eqb (rackIn b .refusal) 0)
     (cond (ltb (rackIn b .offset) (length b)) (refused 2 (rackIn b .offset)) (rackIn b))
     (rackIn b)
+
+-- and in the host's place, where a file would be given 3 or 4
+abbrev pub eventFirst : List ℕ → Bool
+eventFirst b = leb (length b) 65536 && isEvent (byteIn b 0)
+
+unfoldable pub rackAlone : List ℕ → Loading
+rackAlone b = cond (eventFirst b) (refused 2 0) (rackLater b)
 
 -- the events from an offset on, at most `left` of them
 unfoldable pub eventsFrom : ℕ → List ℕ → ℕ → Tree → Loading

@@ -1,7 +1,7 @@
 -- A rack that is read is accepted, each of its nodes has a place of its own, its file has at most 65,536 bytes, and its events
 -- begin within the file.
 -- Assumes nothing.
-use mathlib.Core.Path.{_≡_}
+use mathlib.Core.Path.{_≡_, _∙_}
 use mathlib.Core.List.{List}
 use Prim.Native.Nat.{ℕ, zero, suc, _+_, _≤_}
 use native.Mathlib.Omega.{arith}
@@ -17,9 +17,9 @@ use Rattle.rack_laws.specs.Places.{PlacedBy, by-placed}
 use Rattle.rack_laws.specs.Grown.{none-accepted, none-placed-by, grown-accepted, grown-placed}
 use Rattle.rackfile.specs.Number.{byteIn}
 use Rattle.rackfile.specs.Record.{sizeOf, nodeIn}
-use Rattle.rackfile.specs.Load.{firstFault, rackFault, rackEnds, rackFrom, rackIn, rackAlone, fileIn}
+use Rattle.rackfile.specs.Load.{firstFault, rackFault, rackEnds, rackFrom, rackIn, eventFirst, rackLater, rackAlone, fileIn}
 use Rattle.rackfile.specs.Turns.{shape-ends, rack-shape, rack-node, rack-past, rack-stop, rack-step}
-use Rattle.rackfile.specs.Cases.{refusal-same, rack-over, rack-empty, rack-first, rack-behind, host-inside, alone-refused, alone-event, alone-rack, eventsIn, file-refused, file-event, file-rack}
+use Rattle.rackfile.specs.Cases.{refusal-same, rack-over, rack-empty, rack-first, rack-behind, host-inside, alone-first, alone-later, later-refused, later-event, later-rack, eventsIn, file-refused, file-event, file-rack}
 
 -- what holds of a tree and an offset, and is kept by one record more without a fault, holds of what is read behind them
 module _ (b : List ℕ) (P : Tree → ℕ → Type 0)
@@ -85,20 +85,28 @@ module _ (b : List ℕ) where
       (λ t o i f. (omega (arith, i .0), shape-ends b o (rack-shape b o t f))) (omega arith, host-inside b (rack-host z)) z
 
   -- a rack without events is the file's rack, and so is the rack of a whole file
-  pub alone-is : rackAlone b .refusal ≡ 0 → (rackIn b .refusal ≡ 0) × (rackAlone b ≡ rackIn b)
-  alone-is z =
+  later-is : rackLater b .refusal ≡ 0 → (rackIn b .refusal ≡ 0) × (rackLater b ≡ rackIn b)
+  later-is z =
       tested (eqb (rackIn b .refusal) 0)
       (λ q.
       let r : rackIn b .refusal ≡ 0 = eqb-true (rackIn b .refusal) 0 q in
       tested (ltb (rackIn b .offset) (length b))
-      (λ w. absurd (two (refusal-same (alone-event b r (ltb-true (rackIn b .offset) (length b) w)) z)))
-      (λ w. (r, alone-rack b r (ltb-false (rackIn b .offset) (length b) w))))
+      (λ w. absurd (two (refusal-same (later-event b r (ltb-true (rackIn b .offset) (length b) w)) z)))
+      (λ w. (r, later-rack b r (ltb-false (rackIn b .offset) (length b) w))))
       (λ q.
-      let e = alone-refused b (eqb-false (rackIn b .refusal) 0 q) in
+      let e = later-refused b (eqb-false (rackIn b .refusal) 0 q) in
       (refusal-same e z, e))
     where
       two : _≡_ {A = ℕ} 2 0 → ⊥
       two e = omega arith
+
+  pub alone-is : rackAlone b .refusal ≡ 0 → (rackIn b .refusal ≡ 0) × (rackAlone b ≡ rackIn b)
+  alone-is z =
+      tested (eventFirst b) (λ q. let n : _≡_ {A = ℕ} 2 0 = refusal-same (alone-first b q) z in absurd (omega arith))
+      (λ q.
+      let e = alone-later b q in
+      let l = later-is (refusal-same e z) in
+      (l .0, e ∙ l .1))
 
   pub file-is : fileIn b .refusal ≡ 0 → (rackIn b .refusal ≡ 0) × (fileIn b ≡ rackIn b)
   file-is z =

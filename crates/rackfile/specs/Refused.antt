@@ -4,18 +4,18 @@
 -- Assumes nothing.
 use mathlib.Core.Path.{_≡_, refl, sym, ap, _∙_}
 use mathlib.Core.Bool.{false, true≢false}
-use mathlib.Core.List.{List}
+use mathlib.Core.List.{List, [], _∷_}
 use Prim.Native.Nat.{ℕ, zero, suc, _≤_, _<_}
 use native.Mathlib.Omega.{arith}
 use lib.Dec.{ltb, eqb}
 use lib.ListN.{length}
-use borrow.Author.Tests.{ltb-true, ltb-false, eqb-true, eqb-false}
+use borrow.Author.Tests.{lt-leb, le-leb, ltb-true, ltb-false, eqb-true, eqb-false}
 use Rattle.rack.specs.Bools.{tested}
 use Rattle.rack_laws.specs.First.{numbered}
 use Rattle.rackfile.specs.Number.{byteIn}
 use Rattle.rackfile.specs.Record.{isEvent}
-use Rattle.rackfile.specs.Load.{Loading, refused, rackAlone, fileIn}
-use Rattle.rackfile.specs.Cases.{refusal-same, rack-over, rack-empty, alone-refused, file-refused}
+use Rattle.rackfile.specs.Load.{Loading, refused, eventFirst, rackAlone, fileIn}
+use Rattle.rackfile.specs.Cases.{refusal-same, rack-over, rack-empty, alone-later, later-refused, file-refused}
 use Rattle.rackfile.specs.LoadLaws.{file-long, alone-long}
 use Rattle.rackfile.specs.Records.{recordAt, recordFault, FirstFaulty, Faultless}
 use Rattle.rackfile.specs.RecordFaults.{recordRefusal, record-holds, record-none, record-lowest, record-only}
@@ -123,27 +123,37 @@ module _ (b : List ℕ) where
       not-empty : length b ≡ 0 → ⊥
       not-empty h = let w : _≡_ {A = ℕ} 1 4 = sym e ∙ ap (λ (d : Loading). d .refusal) (file-empty h) in omega arith
 
+-- no byte is no event
+empty-kind : (b : List ℕ) → length b ≡ 0 → isEvent (byteIn b 0) ≡ false
+empty-kind [] h = refl
+empty-kind (x ∷ l) h = absurd (omega arith)
+
 -- the same of the rack records of a call
 module _ (b : List ℕ) where
   pub alone-over : 65536 < length b → rackAlone b ≡ refused 1 65536
-  alone-over h = let e = rack-over b h in alone-refused b (refused-is e (λ z. omega (arith, z))) ∙ e
+  alone-over h =
+      let e = rack-over b h in
+      let f : eventFirst b ≡ false = rw (lt-leb (length b) 65536 h) in
+      alone-later b f ∙ later-refused b (refused-is e (λ z. omega (arith, z))) ∙ e
 
   pub alone-empty : length b ≡ 0 → rackAlone b ≡ refused 4 0
-  alone-empty h = let e = rack-empty b h in alone-refused b (refused-is e (λ z. omega (arith, z))) ∙ e
+  alone-empty h =
+      let e = rack-empty b h in
+      let f : eventFirst b ≡ false = rw (le-leb (length b) 65536 (omega arith), empty-kind b h) in
+      alone-later b f ∙ later-refused b (refused-is e (λ z. omega (arith, z))) ∙ e
 
-  module _ (first : isEvent (byteIn b 0) ≡ false) where
-    module _ (long : length b ≤ 65536) (some : length b ≡ 0 → ⊥) where
-      pub alone-given : (rackAlone b .refusal ≡ 0 → ⊥) → FirstFaulty 3 b (rackAlone b .refusal) (rackAlone b .offset)
-      alone-given z = given 3 b (rackAlone b) (alone-walk b first long some) z
+  module _ (long : length b ≤ 65536) (some : length b ≡ 0 → ⊥) where
+    pub alone-given : (rackAlone b .refusal ≡ 0 → ⊥) → FirstFaulty 3 b (rackAlone b .refusal) (rackAlone b .offset)
+    alone-given z = given 3 b (rackAlone b) (alone-walk b long some) z
 
-      pub alone-gives : (n o : ℕ) → FirstFaulty 3 b n o → (rackAlone b .refusal ≡ n) × (rackAlone b .offset ≡ o)
-      alone-gives n o f = gives 3 b (rackAlone b) (alone-walk b first long some) n o f
+    pub alone-gives : (n o : ℕ) → FirstFaulty 3 b n o → (rackAlone b .refusal ≡ n) × (rackAlone b .offset ≡ o)
+    alone-gives n o f = gives 3 b (rackAlone b) (alone-walk b long some) n o f
 
-      pub alone-accepts : Faultless 3 b → rackAlone b .refusal ≡ 0
-      alone-accepts f = accepts 3 b (rackAlone b) (alone-walk b first long some) f
+    pub alone-accepts : Faultless 3 b → rackAlone b .refusal ≡ 0
+    alone-accepts f = accepts 3 b (rackAlone b) (alone-walk b long some) f
 
-    pub alone-faultless : rackAlone b .refusal ≡ 0 → Faultless 3 b
-    alone-faultless z = faultless 3 b (rackAlone b) (alone-walk b first (alone-long b z) (alone-some z)) z
-      where
-        alone-some : rackAlone b .refusal ≡ 0 → length b ≡ 0 → ⊥
-        alone-some z e = refused-is (alone-empty e) (λ q. omega (arith, q)) z
+  pub alone-faultless : rackAlone b .refusal ≡ 0 → Faultless 3 b
+  alone-faultless z = faultless 3 b (rackAlone b) (alone-walk b (alone-long b z) (alone-some z)) z
+    where
+      alone-some : rackAlone b .refusal ≡ 0 → length b ≡ 0 → ⊥
+      alone-some z e = refused-is (alone-empty e) (λ q. omega (arith, q)) z

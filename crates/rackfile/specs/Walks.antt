@@ -1,6 +1,6 @@
 -- The walk of a file meets its records by their numbers, and stops at the first faulty one.
 -- Assumes nothing.
-use mathlib.Core.Path.{_≡_, refl, sym, ap, _∙_}
+use mathlib.Core.Path.{_≡_, refl, sym, ap, _∙_, subst}
 use mathlib.Core.Bool.{true, false, _||_}
 use mathlib.Core.List.{List}
 use Prim.Native.Nat.{ℕ, zero, suc, _+_, _≤_, _<_}
@@ -14,9 +14,9 @@ use Rattle.rack.specs.Grow.{noTree, grown}
 use Rattle.rackfile.specs.Number.{byteIn}
 use Rattle.rackfile.specs.Record.{sizeOf, noKind, cutShort, isHost, isNode, isEvent, nodeIn}
 use Rattle.rackfile.specs.RecordLaws.{size-least}
-use Rattle.rackfile.specs.Load.{Loading, loaded, refused, firstFault, shapeFault, rackFault, eventFault, rackEnds, rackFrom, rackIn, rackAlone, eventsFrom, fileIn}
+use Rattle.rackfile.specs.Load.{Loading, loaded, refused, firstFault, shapeFault, rackFault, eventFault, rackEnds, rackFrom, rackIn, eventFirst, rackLater, rackAlone, eventsFrom, fileIn}
 use Rattle.rackfile.specs.Turns.{events-past, events-stop, events-step, rack-shape, rack-past, rack-stop, rack-step}
-use Rattle.rackfile.specs.Cases.{rack-first, rack-behind, host-there, alone-refused, alone-event, alone-rack, eventsIn, file-refused, file-event, file-rack}
+use Rattle.rackfile.specs.Cases.{rack-first, rack-behind, host-there, alone-first, alone-later, later-refused, later-event, later-rack, eventsIn, file-refused, file-event, file-rack}
 use Rattle.rackfile.specs.Records.{recordAt, kindAt, rackBefore, eventBefore}
 use Rattle.rackfile.specs.RecordFaults.{recordRefusal, first-record, rack-record, event-record, same-record, high-record, else-node, host-no-event}
 
@@ -234,10 +234,10 @@ file-walk b long some =
     rack : Walk 8 b (RackEnd 8 b (rackIn b)) (rackIn b)
     rack = rack-in 8 b (λ k e. refl) (first-record b) long some
 
--- the walk of the rack records of a call
-pub alone-walk : (b : List ℕ) → isEvent (byteIn b 0) ≡ false → length b ≤ 65536 → (length b ≡ 0 → ⊥)
-    → Walk 3 b (FileEnd 3 b) (rackAlone b)
-alone-walk b first long some =
+-- the walk of the rack records of a call whose first is no event
+later-walk : (b : List ℕ) → isEvent (byteIn b 0) ≡ false → length b ≤ 65536 → (length b ≡ 0 → ⊥)
+    → Walk 3 b (FileEnd 3 b) (rackLater b)
+later-walk b first long some =
     tested (eqb (rackIn b .refusal) 0)
     (λ q.
     let z : rackIn b .refusal ≡ 0 = eqb-true (rackIn b .refusal) 0 q in
@@ -247,21 +247,35 @@ alone-walk b first long some =
     (λ p.
     let l : rackIn b .offset < length b = ltb-true (rackIn b .offset) (length b) p in
     let h : recordAt b k < length b = omega (arith, l, e .offset) in
-    rw (alone-event b z l, ← e .offset)
+    rw (later-event b z l, ← e .offset)
     (walk-stops 3 b k 2 (e .clean) h (high-record b k (event-there b (recordAt b k) (e .ends) h)) (λ n. omega (arith, n))))
     (λ p.
     let l : length b ≤ rackIn b .offset = ltb-false (rackIn b .offset) (length b) p in
-    rw (alone-rack b z l)
+    rw (later-rack b z l)
     (record {
       stopped = λ n. absurd (n z);
       ended = λ n. record { count = k; clean = e .clean; past = omega (arith, e .offset) };
     })))
     (λ q.
     let z : rackIn b .refusal ≡ 0 → ⊥ = eqb-false (rackIn b .refusal) 0 q in
-    rw (alone-refused b z) (record { stopped = λ n. rack .stopped n; ended = λ n. absurd (z n) }))
+    rw (later-refused b z) (record { stopped = λ n. rack .stopped n; ended = λ n. absurd (z n) }))
   where
     rack : Walk 3 b (RackEnd 3 b (rackIn b)) (rackIn b)
     rack = rack-in 3 b (same-record b) (same-record b 0 (first-kind first) ∙ first-record b) long some
       where
         first-kind : isEvent (byteIn b 0) ≡ false → isEvent (kindAt b 0) ≡ false
         first-kind f = rw (start-at b) f
+
+-- the walk of the rack records of a call
+pub alone-walk : (b : List ℕ) → length b ≤ 65536 → (length b ≡ 0 → ⊥) → Walk 3 b (FileEnd 3 b) (rackAlone b)
+alone-walk b long some =
+    tested (isEvent (byteIn b 0))
+    (λ q.
+    let k : isEvent (kindAt b 0) ≡ true = rw (start-at b) q in
+    let e : eventFirst b ≡ true = rw (le-leb (length b) 65536 long, q) in
+    rw (alone-first b e)
+    (subst (λ (d : Loading). Walk 3 b (FileEnd 3 b) d) (ap (λ (o : ℕ). refused 2 o) (start-at b))
+    (walk-stops 3 b 0 2 (λ j h. absurd (omega arith)) (rw (start-at b) (omega arith)) (high-record b 0 k) (λ n. omega (arith, n)))))
+    (λ q.
+    let e : eventFirst b ≡ false = rw (le-leb (length b) 65536 long, q) in
+    rw (alone-later b e) (later-walk b q long some))

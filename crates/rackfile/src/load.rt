@@ -6,7 +6,7 @@ ghost use Rattle.rack.specs.Table.{treeOf};
 ghost use Rattle.rack.specs.Grow.{noTree, grown};
 ghost use Rattle.rack.specs.Refusal.{rackRefusal};
 ghost use Rattle.rackfile.specs.Record.{nodeIn};
-ghost use Rattle.rackfile.specs.Load.{firstFault, shapeFault, rackFault, eventFault, rackEnds, rackFrom, rackIn, rackAlone, eventsFrom, fileIn};
+ghost use Rattle.rackfile.specs.Load.{firstFault, shapeFault, rackFault, eventFault, rackEnds, rackFrom, rackIn, rackLater, eventFirst, rackAlone, eventsFrom, fileIn};
 ghost use Rattle.rackfile.specs.Loads.{Loads, Faults};
 use crate::Fault;
 use crate::Loaded;
@@ -155,9 +155,9 @@ pub fn load_rack(file: &[u8]) -> Loaded
     rack_from(file)
 }
 
-// A rack without events, as the C calls take it: an event kind is 2.
-pub fn load_alone(file: &[u8]) -> Loaded
-    ensures { λ r. ⌜ Loads r (rackAlone (now (file .entry))) ⌝ }
+// A rack with no event behind its host: an event kind is 2.
+fn load_later(file: &[u8]) -> Loaded
+    ensures { λ r. ⌜ Loads r (rackLater (now (file .entry))) ⌝ }
 {
     let l = load_rack(file);
     if l.refusal != 0 {
@@ -167,6 +167,24 @@ pub fn load_alone(file: &[u8]) -> Loaded
         return refused_at(2, l.offset);
     }
     l
+}
+
+// Whether an event stands in the host's place.
+fn event_first(file: &[u8]) -> bool
+    ensures { λ r. ⌜ r ≡ eventFirst (now (file .entry)) ⌝ }
+{
+    let kind = byte_at(file, 0);
+    (file.len() <= 65536) & is_event(kind)
+}
+
+// A rack without events, as the C calls take it.
+pub fn load_alone(file: &[u8]) -> Loaded
+    ensures { λ r. ⌜ Loads r (rackAlone (now (file .entry))) ⌝ }
+{
+    if event_first(file) {
+        return refused_at(2, 0);
+    }
+    load_later(file)
 }
 
 // The first faulty record from the first event on.

@@ -1,38 +1,29 @@
 use mathlib.Core.Path.{sym, _∙_}
 use native.Mathlib.Omega.{arith}
-use Rattle.rackfile.specs.Cases.{alone-refused, alone-event, alone-rack}
+use Rattle.rackfile.specs.Cases.{alone-first, alone-later}
 use Rattle.rackfile.specs.LoadsLaws.{loads-refused, loads-same}
 use borrow.Author.Needs.{needs}
 use Rattle.rackfile.proofs.load.load_alone.Statement.{statement}
 use Rattle.rackfile.proofs.load.load_alone.Tie as tie
 
-load-rack-requires : tie.Need-load-rack-requires
-load-rack-requires c κs = search needs
-
-returns : tie.Need-returns
-returns c =
-    let k = c .before .before in
-    let l = k .load-rack .ensures in
-    loads-same (alone-refused (k .before .before .args .file .now) (λ q. c .if1 .taken (l .refusal ∙ q))) l
+event-first-requires : tie.Need-event-first-requires
+event-first-requires c κs = search needs
 
 refused-at-requires : tie.Need-refused-at-requires
 refused-at-requires c κs = search needs
 
-returns-2 : tie.Need-returns-2
-returns-2 c =
-    let g = c .before .before .before in
-    let k = g .before .before in
-    let l = k .load-rack .ensures in
-    let e = c .refused-at .ensures in
-    loads-refused (alone-event (k .before .before .args .file .now) (sym (l .refusal) ∙ g .if1 .left) (omega (arith, l .offset, c .before .if2 .taken))) (λ q. omega (arith, q)) (e .0) (e .1 ∙ l .offset)
+returns : tie.Need-returns
+returns c = let k = c .before .before in
+    loads-refused (alone-first (k .before .before .args .file .now) (sym (k .event-first .ensures) ∙ c .before .if1 .taken)) (λ q. omega (arith, q)) (c .refused-at .ensures .0) (c .refused-at .ensures .1)
 
-returns-3 : tie.Need-returns-3
-returns-3 c =
-    let g = c .before .before in
-    let k = g .before .before in
-    let l = k .load-rack .ensures in
-    loads-same (alone-rack (k .before .before .args .file .now) (sym (l .refusal) ∙ g .if1 .left) (omega (arith, l .offset, c .if2 .left))) l
+load-later-requires : tie.Need-load-later-requires
+load-later-requires c κs = search needs
+
+returns-2 : tie.Need-returns-2
+returns-2 c = let k = c .before .before in
+    loads-same (alone-later (k .before .before .args .file .now) (sym (k .event-first .ensures) ∙ c .before .if1 .left)) (c .load-later .ensures)
 
 pub load-alone-spec : {M : Type 1} → statement M
 load-alone-spec =
-    tie.close (tie.spec load-rack-requires returns refused-at-requires returns-2 returns-3)
+    tie.close
+    (tie.spec event-first-requires refused-at-requires returns load-later-requires returns-2)
