@@ -8,7 +8,3 @@ pub mod LoadsLaws
 pub mod Turns
 pub mod Cases
 pub mod LoadLaws
-pub mod Records
-pub mod RecordFaults
-pub mod Walks
-pub mod Refused

@@ -11,10 +11,10 @@ use borrow.Author.Tests.{ltb-true, ltb-false, leb-true, eqb-true, eqb-false, lt-
 use Rattle.rack.specs.Bools.{tested, not-fails, either, both, neither}
 use Rattle.rack.specs.Refusal.{nodeRefusal}
 use Rattle.rack_laws.specs.First.{first, first-holds, first-none, first-lowest}
 use Rattle.rackfile.specs.Number.{byteIn}
 use Rattle.rackfile.specs.Record.{noKind, cutShort, isHost, isNode, isEvent}
 use Rattle.rackfile.specs.Load.{firstFault, shapeFault, rackFault, eventFault}
-use Rattle.rackfile.specs.Records.{recordAt, kindAt, rackBefore, eventBefore, predicates, recordFault}
+use Rattle.rackfile_laws.specs.Records.{recordAt, kindAt, rackBefore, eventBefore, predicates, recordFault}
 
 -- the number that is given at a record
 unfoldable pub recordRefusal : ℕ → List ℕ → ℕ → ℕ

@@ -11,14 +11,14 @@ use borrow.Author.Tests.{leb-true, leb-false, ltb-true, ltb-false, eqb-true, eqb
 use Rattle.rack.specs.Bools.{tested, neither}
 use Rattle.rack.specs.Tree.{Tree}
 use Rattle.rack.specs.Grow.{noTree, grown}
 use Rattle.rackfile.specs.Number.{byteIn}
 use Rattle.rackfile.specs.Record.{sizeOf, noKind, cutShort, isHost, isNode, isEvent, nodeIn}
 use Rattle.rackfile.specs.RecordLaws.{size-least}
 use Rattle.rackfile.specs.Load.{Loading, loaded, refused, firstFault, shapeFault, rackFault, eventFault, rackEnds, rackFrom, rackIn, eventFirst, rackLater, rackAlone, eventsFrom, fileIn}
 use Rattle.rackfile.specs.Turns.{events-past, events-stop, events-step, rack-shape, rack-past, rack-stop, rack-step}
 use Rattle.rackfile.specs.Cases.{rack-first, rack-behind, host-there, alone-first, alone-later, later-refused, later-event, later-rack, eventsIn, file-refused, file-event, file-rack}
-use Rattle.rackfile.specs.Records.{recordAt, kindAt, rackBefore, eventBefore}
-use Rattle.rackfile.specs.RecordFaults.{recordRefusal, first-record, rack-record, event-record, same-record, high-record, else-node, host-no-event}
+use Rattle.rackfile_laws.specs.Records.{recordAt, kindAt, rackBefore, eventBefore}
+use Rattle.rackfile_laws.specs.RecordFaults.{recordRefusal, first-record, rack-record, event-record, same-record, high-record, else-node, host-no-event}
 
 -- no record before record k has a fault
 abbrev pub Clean : ℕ → List ℕ → ℕ → Type 0

@@ -12,14 +12,14 @@ use lib.ListN.{length}
 use borrow.Author.Tests.{lt-leb, le-leb, ltb-true, ltb-false, eqb-true, eqb-false}
 use Rattle.rack.specs.Bools.{tested}
 use Rattle.rack_laws.specs.First.{numbered}
 use Rattle.rackfile.specs.Number.{byteIn}
 use Rattle.rackfile.specs.Record.{isEvent}
 use Rattle.rackfile.specs.Load.{Loading, refused, eventFirst, rackAlone, fileIn}
 use Rattle.rackfile.specs.Cases.{refusal-same, rack-over, rack-empty, alone-later, later-refused, file-refused}
 use Rattle.rackfile.specs.LoadLaws.{file-long, alone-long}
-use Rattle.rackfile.specs.Records.{recordAt, recordFault, FirstFaulty, Faultless}
-use Rattle.rackfile.specs.RecordFaults.{recordRefusal, record-holds, record-none, record-lowest, record-only}
-use Rattle.rackfile.specs.Walks.{Walk, FileEnd, file-walk, alone-walk}
+use Rattle.rackfile_laws.specs.Records.{recordAt, recordFault, FirstFaulty, Faultless}
+use Rattle.rackfile_laws.specs.RecordFaults.{recordRefusal, record-holds, record-none, record-lowest, record-only}
+use Rattle.rackfile_laws.specs.Walks.{Walk, FileEnd, file-walk, alone-walk}
 
 -- a later record does not begin earlier
 at-later : (b : List ℕ) (k m : ℕ) → k ≤ m → recordAt b k ≤ recordAt b m

@@ -1,0 +1,4 @@
+pub mod Records
+pub mod RecordFaults
+pub mod Walks
+pub mod Refused
