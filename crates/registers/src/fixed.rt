@@ -54,7 +54,12 @@ fn fixed_wrong<'a>(words: &[u64; 192], count: u8, bridges: &'a [u8], devices: &'
     false
 }
 
-pub fn lengths_wrong<'a>(words: &[u64; 192], count: u8, bridges: &'a [u8], devices: &'a [u8]) -> bool
+pub fn lengths_wrong<'a>(
+    words: &[u64; 192],
+    count: u8,
+    bridges: &'a [u8],
+    devices: &'a [u8],
+) -> bool
     ensures { λ r. ⌜ r ≡ lengthsWrong (treeOf count (now (words .entry))) (images (now (bridges .entry)) (now (devices .entry))) ⌝ }
 {
     let b = rack::table::bridges_below(words, count as usize);

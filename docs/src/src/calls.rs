@@ -11,12 +11,18 @@ use crate::refuse::{self, Fields};
 use crate::registers;
 use crate::windows::{region_ends, Address, Ends, Windows};
 
-/// The machine of a call that is not refused.
+/// The machine of a call that is not refused: 6 to 12, then 13.
 fn accept(rack: &Rack, bridges: &[u8], devices: &[u8], fields: &Fields) -> Result<Machine, u8> {
-    match refuse::call(rack, bridges, devices, fields) {
+    let machine = Machine::with_images(rack.clone(), bridges, devices)?;
+    match refuse::fields(rack, fields) {
         Some(number) => Err(number),
-        None => Machine::with_images(rack.clone(), bridges, devices),
+        None => Ok(machine),
     }
+}
+
+/// The rack of a call that takes it as bytes: "1 to 10 as for a file".
+fn rack_of_bytes(records: &[u8]) -> Result<Rack, u8> {
+    file::read_rack(records).map_err(|refused| refused.number)
 }
 
 /// Hands the registers back to the lent images; their lengths are equal by refusal 11.
@@ -51,23 +57,38 @@ pub fn event_of_bytes(
     bridges: &mut [u8],
     devices: &mut [u8],
 ) -> Result<Answer, u8> {
-    let rack = file::read_rack(records).map_err(|refused| refused.number)?;
+    let rack = rack_of_bytes(records)?;
     let read = file::read_event(event_bytes)?;
     event(&rack, bridges, devices, &read)
 }
 
 /// The C call that checks.
 pub fn check_of_bytes(records: &[u8], bridges: &[u8], devices: &[u8]) -> Result<Answer, u8> {
-    let rack = file::read_rack(records).map_err(|refused| refused.number)?;
-    check(&rack, bridges, devices)
+    check(&rack_of_bytes(records)?, bridges, devices)
 }
 
-/// The register view; refused, "The view shows an empty part."
-pub fn view<'a>(rack: &Rack, bridges: &'a [u8], devices: &'a [u8], node: u8) -> &'a [u8] {
+/// The reset of both images. What stands in them plays no part, so that 12 refuses none.
+pub fn reset_of_bytes(records: &[u8], bridges: &mut [u8], devices: &mut [u8]) -> Result<(), u8> {
+    let rack = rack_of_bytes(records)?;
+    if let Some(number) = refuse::lengths(&rack, bridges, devices) {
+        return Err(number);
+    }
+    hand_back(&Machine::at_reset(rack)?, bridges, devices);
+    Ok(())
+}
+
+/// The register view. A refused one has no part but the number: "The view shows an
+/// empty part."
+pub fn view<'a>(
+    rack: &Rack,
+    bridges: &'a [u8],
+    devices: &'a [u8],
+    node: u8,
+) -> Result<&'a [u8], u8> {
     let fields = Fields { node: Some(node), ..Fields::default() };
     match refuse::call(rack, bridges, devices, &fields) {
-        Some(_) => &[],
-        None => registers::part(rack, bridges, devices, node),
+        Some(number) => Err(number),
+        None => Ok(registers::part(rack, bridges, devices, node)),
     }
 }
 
@@ -152,4 +173,42 @@ pub fn region(
     let record = machine.rack().regions(device).and_then(|all| all.get(usize::from(index)));
     let ends = record.and_then(|record| region_ends(machine.part(device), index, record));
     Ok(ends.map(|(_, ends)| ends))
+}
+
+/// Both ends of a bridge's window: 0 memory, 1 prefetchable, 2 I/O; none if it is empty.
+pub fn window(
+    rack: &Rack,
+    bridges: &[u8],
+    devices: &[u8],
+    bridge: u8,
+    index: u8,
+) -> Result<Option<Ends>, u8> {
+    let fields = Fields { window: Some((bridge, index)), ..Fields::default() };
+    let machine = accept(rack, bridges, devices, &fields)?;
+    Ok(Windows::of(machine.part(bridge)).ends(index))
+}
+
+/// Both ends of a window of the node, if it is a bridge, else of a region of it.
+pub fn ends(
+    rack: &Rack,
+    bridges: &[u8],
+    devices: &[u8],
+    node: u8,
+    index: u8,
+) -> Result<Option<Ends>, u8> {
+    match rack.bridge(node) {
+        Some(_) => window(rack, bridges, devices, node, index),
+        None => region(rack, bridges, devices, node, index),
+    }
+}
+
+/// The same with the rack records as bytes.
+pub fn ends_of_bytes(
+    records: &[u8],
+    bridges: &[u8],
+    devices: &[u8],
+    node: u8,
+    index: u8,
+) -> Result<Option<Ends>, u8> {
+    ends(&rack_of_bytes(records)?, bridges, devices, node, index)
 }

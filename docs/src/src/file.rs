@@ -121,7 +121,7 @@ fn take_node(rack: &mut Rack, node: Node) -> Result<(), u8> {
 
 /// "2 bridge (6): parent, device number, vendor ID (2), device ID (2). 3 device (12):
 /// the same six bytes, then three regions of kind (1) and exponent e (1)."
-fn node(kind: u8, body: &[u8]) -> Node {
+pub(crate) fn node(kind: u8, body: &[u8]) -> Node {
     let region = |at| Region { kind: u8_at(body, at), exponent: u8_at(body, at + 1) };
     Node {
         parent: u8_at(body, 0),

@@ -13,6 +13,7 @@
 //! - [`answer`]: the endings of an event and the lines that show them.
 //! - [`calls`]: all of the above as calls over a rack and two lent images.
 //! - [`program`]: the whole output for the bytes of a rack file.
+//! - [`script`]: scripts of calls as `CALLS.md` says, and what every call gives.
 
 pub mod answer;
 pub mod bytes;
@@ -26,4 +27,5 @@ pub mod rack;
 pub mod refuse;
 pub mod registers;
 pub mod route;
+pub mod script;
 pub mod windows;

@@ -18,6 +18,11 @@ fn bit_of(register: u16, bit: u8) -> bool {
     register.checked_shr(u32::from(bit)).unwrap_or(0) & 1 == 1
 }
 
+/// A bit of the command register at 04h of these 64 bytes.
+pub(crate) fn command_bit(part: &[u8], bit: u8) -> bool {
+    bit_of(u16_at(part, 0x04), bit)
+}
+
 /// Rack and registers together.
 #[derive(Clone, Debug, PartialEq, Eq)]
 pub struct Machine {
@@ -89,9 +94,9 @@ impl Machine {
         }
     }
 
-    /// A bit of the command register at 04h.
+    /// A bit of a node's command register.
     pub fn command_bit(&self, node: u8, bit: u8) -> bool {
-        bit_of(u16_at(self.part(node), 0x04), bit)
+        command_bit(self.part(node), bit)
     }
 
     /// A bit of the bridge control register at 3Eh.

@@ -70,19 +70,24 @@ pub fn rack(rack: &Rack) -> Option<u8> {
     None
 }
 
-/// Refusals 11 and 12, of two images for a rack that is not refused.
-pub fn images(rack: &Rack, bridges: &[u8], devices: &[u8]) -> Option<u8> {
-    // 11: "An image is not 64 times its node count long."
+/// 11: "An image is not 64 times its node count long."
+pub fn lengths(rack: &Rack, bridges: &[u8], devices: &[u8]) -> Option<u8> {
     let lengths = (64 * rack.bridge_count(), 64 * rack.device_count());
-    if (bridges.len(), devices.len()) != lengths {
-        return Some(11);
-    }
-    // 12: "A fixed bit differs from its reset value."
+    ((bridges.len(), devices.len()) != lengths).then_some(11)
+}
+
+/// 12: "A fixed bit differs from its reset value."
+fn fixed_bits(rack: &Rack, bridges: &[u8], devices: &[u8]) -> Option<u8> {
     let differs = rack.numbered().any(|(number, node)| {
         let part = registers::part(rack, bridges, devices, number);
         registers::fixed_bit_differs(node, part)
     });
     differs.then_some(12)
+}
+
+/// Refusals 11 and 12, of two images for a rack that is not refused.
+pub fn images(rack: &Rack, bridges: &[u8], devices: &[u8]) -> Option<u8> {
+    lengths(rack, bridges, devices).or_else(|| fixed_bits(rack, bridges, devices))
 }
 
 /// The fields of a call that refusal 13 speaks of; a call leaves out those it has not.
@@ -104,6 +109,8 @@ pub struct Fields {
     pub bus: Option<u8>,
     /// A region named in the call, with the device it is in.
     pub region: Option<(u8, u8)>,
+    /// A window named in the call, with the bridge it is of.
+    pub window: Option<(u8, u8)>,
 }
 
 impl Fields {
@@ -131,14 +138,16 @@ impl Fields {
 /// in a call is missing."
 pub fn fields(rack: &Rack, fields: &Fields) -> Option<u8> {
     let is_device = |number| rack.regions(number).is_some();
+    let is_bridge = |number| rack.bridge(number).is_some();
     let fault = fields.register.is_some_and(|register| register % 4 != 0)
         || fields.enables.is_some_and(|enables| enables > 15)
         || fields.direction.is_some_and(|direction| direction > 1)
         || fields.initiator.is_some_and(|number| number != HOST && !is_device(number))
         || fields.node.is_some_and(|number| rack.node(number).is_none())
-        || fields.bridge.is_some_and(|number| rack.bridge(number).is_none())
-        || fields.bus.is_some_and(|holder| holder != HOST && rack.bridge(holder).is_none())
-        || fields.region.is_some_and(|(number, region)| !is_device(number) || region > 2);
+        || fields.bridge.is_some_and(|number| !is_bridge(number))
+        || fields.bus.is_some_and(|holder| holder != HOST && !is_bridge(holder))
+        || fields.region.is_some_and(|(number, region)| !is_device(number) || region > 2)
+        || fields.window.is_some_and(|(number, window)| !is_bridge(number) || window > 2);
     fault.then_some(13)
 }
 

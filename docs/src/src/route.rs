@@ -1,7 +1,7 @@
 //! "Routes": where an access goes, and the status bits that it leaves.
 
 use crate::answer::{Abort, Answer};
-use crate::claims::{bus_numbers, claimants, config_claimants, device_region, host_memory};
+use crate::claims::{claimants, config_claimants, device_region, host_memory, BusNumbers};
 use crate::machine::{Machine, Side};
 use crate::rack::HOST;
 use crate::windows::Address;
@@ -152,7 +152,7 @@ fn type_1(
         [] => Ending::Unclaimed,
         [bridge] => {
             crossings.push(Crossing { bridge, near: Side::Primary, far: Side::Secondary });
-            return if number == bus_numbers(machine, bridge).0 {
+            return if number == BusNumbers::of(machine, bridge).secondary {
                 type_0(machine, bridge, device_function, crossings)
             } else {
                 type_1(machine, bridge, number, device_function, crossings)

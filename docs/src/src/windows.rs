@@ -98,6 +98,18 @@ impl Windows {
         }
     }
 
+    /// Both ends of window 0 (memory), 1 (prefetchable) or 2 (I/O) as base and limit give
+    /// them; none if it is empty. "Base above limit is an empty window."
+    pub fn ends(&self, window: u8) -> Option<Ends> {
+        let ends = match window {
+            0 => self.memory,
+            1 => self.prefetchable,
+            2 => self.io,
+            _ => return None,
+        };
+        Some(ends).filter(|ends| ends.first <= ends.last)
+    }
+
     /// "With ISA enable (bridge control bit 2), addresses below 10000h whose bits 9
     /// to 8 are not 00 are cut out".
     fn isa_cuts(&self, address: u64) -> bool {

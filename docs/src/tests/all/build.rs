@@ -1,12 +1,34 @@
-//! Writes rack files, and a fixed-seed generator.
+//! What the tests share: rack files, nodes, images and full racks, a fixed-seed generator,
+//! hex digits and the binaries.
+
+use std::io::Write;
+use std::process::{Command, Stdio};
 
 use rackcheck::machine::Machine;
+use rackcheck::rack::{Header, Node, Rack, Region};
 
 /// A rack file under construction.
-#[derive(Clone, Default)]
+#[derive(Clone, Debug, Default)]
 pub struct File(pub Vec<u8>);
 
 pub const NO_REGIONS: [(u8, u8); 3] = [(0, 0); 3];
+
+/// Region 0 of that kind and exponent, and no other.
+pub fn only(kind: u8, e: u8) -> [(u8, u8); 3] {
+    [(kind, e), (0, 0), (0, 0)]
+}
+
+/// The node that [`File::bridge`] writes.
+pub fn bridge(parent: u8, device: u8) -> Node {
+    Node { parent, device, vendor_id: 0x1234, device_id: 0x0010, header: Header::Bridge }
+}
+
+/// The node that [`File::device`] writes.
+pub fn device(parent: u8, device: u8, regions: [(u8, u8); 3]) -> Node {
+    let regions = regions.map(|(kind, exponent)| Region { kind, exponent });
+    let header = Header::Device(regions);
+    Node { parent, device, vendor_id: 0x5678, device_id: 0x0020, header }
+}
 
 impl File {
     /// A host without memory.
@@ -20,6 +42,18 @@ impl File {
 
     pub fn host(first: u64, last: u64) -> File {
         File::empty().raw(&[1]).raw(&first.to_le_bytes()).raw(&last.to_le_bytes())
+    }
+
+    /// 32 bridges: 16 on the root bus, 16 below bridge 0.
+    pub fn all_bridges() -> File {
+        let file = (0..16).fold(File::new(), |file, device| file.bridge(255, device));
+        (0..16).fold(file, |file, device| file.bridge(0, device))
+    }
+
+    /// 32 bridges and 64 devices: those of [`File::all_bridges`], and 16 devices on each
+    /// bus of bridges 1 to 4.
+    pub fn full(regions: [(u8, u8); 3]) -> File {
+        (0..64).fold(File::all_bridges(), |file, n| file.device(1 + n / 16, n % 16, regions))
     }
 
     pub fn raw(mut self, bytes: &[u8]) -> File {
@@ -91,6 +125,11 @@ impl File {
         self.tail(1).remove(0)
     }
 
+    /// The rack.
+    pub fn rack(&self) -> Rack {
+        rackcheck::file::read(&self.0).expect("not refused").0
+    }
+
     /// The machine after all events.
     pub fn machine(&self) -> Machine {
         let (rack, events) = rackcheck::file::read(&self.0).expect("not refused");
@@ -99,6 +138,12 @@ impl File {
             rackcheck::program::run_event(&mut machine, event);
         }
         machine
+    }
+
+    /// Both images after all events.
+    pub fn images(&self) -> (Vec<u8>, Vec<u8>) {
+        let machine = self.machine();
+        (machine.bridges().to_vec(), machine.devices().to_vec())
     }
 
     /// Status and, for a bridge, secondary status of a node after all events.
@@ -114,6 +159,85 @@ pub fn output(bytes: &[u8]) -> String {
     let mut out = Vec::new();
     rackcheck::program::run(bytes, &mut out).expect("a vector takes all");
     String::from_utf8(out).expect("ASCII")
+}
+
+/// What a binary of this crate writes for that input, and whether it ends well.
+pub fn binary(path: &str, input: &[u8]) -> (Vec<u8>, bool) {
+    let mut command = Command::new(path);
+    let mut child = command.stdin(Stdio::piped()).stdout(Stdio::piped()).spawn().unwrap();
+    let mut stdin = child.stdin.take().unwrap();
+    let done = std::thread::scope(|scope| {
+        // A program may stop reading before the end, so that the pipe may break.
+        scope.spawn(move || stdin.write_all(input));
+        child.wait_with_output().unwrap()
+    });
+    (done.stdout, done.status.success())
+}
+
+/// The bytes of a row of pairs of hex digits.
+pub fn hex(text: &str) -> Vec<u8> {
+    let digits: Vec<char> = text.chars().filter(|c| !c.is_whitespace()).collect();
+    let pairs = digits.chunks(2).map(|pair| pair.iter().collect::<String>());
+    pairs.map(|pair| u8::from_str_radix(&pair, 16).unwrap()).collect()
+}
+
+/// Bridge 0 on the root bus, and below it device 1 with an I/O and a 64-bit region.
+pub fn one_of_each() -> File {
+    File::host(0x1000, 0x1FFF).bridge(255, 0).device(0, 1, [(1, 4), (3, 20), (0, 0)])
+}
+
+/// The same with windows of all three kinds, and with both regions placed.
+pub fn one_of_each_placed() -> File {
+    one_of_each()
+        .put(0, 0, 0x18, 0x0001_0100)
+        .put(0, 0, 0x1C, 0x5030)
+        .put(0, 0, 0x20, 0x4000_3000)
+        .put(0, 0, 0x24, 0x7000_6000)
+        .put(0, 0, 0x28, 1)
+        .put(0, 0, 0x2C, 2)
+        .put(0, 0, 0x30, 0x0002_0001)
+        .put(1, 1, 0x10, 0x1234)
+        .put(1, 1, 0x18, 0xFFFF_FFFF)
+        .put(1, 1, 0x1C, 0xFFFF_FFFF)
+}
+
+/// A full rack at work, without a clash: every node has bits 0 to 2 of its command set,
+/// every bridge has windows of all three kinds and ISA, every device three regions.
+pub fn full_at_work() -> Machine {
+    let mut rack = File::full([(1, 4), (2, 12), (3, 20)]).rack();
+    (rack.host_first, rack.host_last) = (0, 0x7FFF_FFFF);
+    let mut machine = Machine::at_reset(rack).unwrap();
+    for bridge in 0..32u8 {
+        let k = u32::from(bridge % 16);
+        let twice = |low: u32| low << 16 | low;
+        // Bus numbers, I/O, upper I/O, memory, both upper prefetchable.
+        let [numbers, io, upper_io, memory, base, limit] = match bridge {
+            0 => [0x0028_1400, 0xF000, 0x0001_0001, 0x9FF0_9000, 0x100, 0x1FF],
+            1..=15 => [twice(1 + k) << 8, k << 12 | k << 4, 0, twice(k << 8) + 0x80F0_8000, k, k],
+            _ => [
+                twice(21 + k) << 8,
+                k << 12 | k << 4,
+                0x0001_0001,
+                twice(k << 8) + 0x90F0_9000,
+                0x100 + k,
+                0x100 + k,
+            ],
+        };
+        let writes = [(0x18, numbers), (0x1C, io), (0x30, upper_io), (0x20, memory)];
+        let more = [(0x24, 0xFFF0_0000), (0x28, base), (0x2C, limit), (0x3C, 0x0004_0000), (4, 7)];
+        for (register, data) in writes.into_iter().chain(more) {
+            machine.write(bridge, register, 15, data);
+        }
+    }
+    for n in 0..64u8 {
+        let (bus, d) = (u32::from(1 + n / 16), u32::from(n % 16));
+        let memory = 0x8000_0000 + (bus << 24) + (d << 12);
+        let io = bus << 12 | d << 4;
+        for (register, data) in [(0x10, io), (0x18, memory), (0x20, d << 20), (0x24, bus), (4, 7)] {
+            machine.write(32 + n, register, 15, data);
+        }
+    }
+    machine
 }
 
 /// Vigna's splitmix64 with a fixed seed.
@@ -134,6 +258,10 @@ impl Random {
 
     pub fn byte(&mut self) -> u8 {
         self.next() as u8
+    }
+
+    pub fn bytes(&mut self, count: usize) -> Vec<u8> {
+        (0..count).map(|_| self.byte()).collect()
     }
 
     pub fn one_in(&mut self, n: u64) -> bool {

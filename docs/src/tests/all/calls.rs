@@ -1,20 +1,15 @@
 //! Calls over a rack and two lent images, and over bytes.
 
-use crate::build::{File, NO_REGIONS};
+use crate::build::{bridge, device, one_of_each as rack, one_of_each_placed, File, NO_REGIONS};
 use rackcheck::answer::{Abort, Answer};
 use rackcheck::calls;
-use rackcheck::rack::Event;
+use rackcheck::rack::{Event, Rack};
 use rackcheck::windows::{Address, Ends};
-
-fn rack() -> File {
-    File::host(0x1000, 0x1FFF).bridge(255, 0).device(0, 1, [(1, 4), (3, 20), (0, 0)])
-}
 
 #[test]
 fn order_over_bytes() {
     let records = rack().0;
-    let machine = rack().machine();
-    let (b, d) = (machine.bridges().to_vec(), machine.devices().to_vec());
+    let (b, d) = rack().images();
     let run = |records: &[u8], event: &[u8], b: &[u8], d: &[u8]| {
         calls::event_of_bytes(records, event, &mut b.to_vec(), &mut d.to_vec())
     };
@@ -55,8 +50,7 @@ fn order_over_bytes() {
 
 #[test]
 fn a_refused_call_leaves_the_images() {
-    let (rack, _) = rackcheck::file::read(&rack().0).unwrap();
-    let (mut b, mut d) = rackcheck::registers::reset_images(&rack);
+    let (rack, (mut b, mut d)) = (rack().rack(), rack().images());
     let (b0, d0) = (b.clone(), d.clone());
     assert_eq!(calls::register_write(&rack, &mut b, &mut d, 0, (0x18, 16, 1)), Err(13));
     assert_eq!(calls::register_write(&rack, &mut b, &mut d, 0, (0x19, 15, 1)), Err(13));
@@ -71,12 +65,11 @@ fn a_refused_call_leaves_the_images() {
 
 #[test]
 fn view_read_and_size() {
-    let (rack, _) = rackcheck::file::read(&rack().0).unwrap();
-    let (b, d) = rackcheck::registers::reset_images(&rack);
-    assert_eq!(calls::view(&rack, &b, &d, 0), &b[..]);
-    assert_eq!(calls::view(&rack, &b, &d, 1), &d[..]);
-    assert!(calls::view(&rack, &b, &d, 2).is_empty());
-    assert!(calls::view(&rack, &b[1..], &d, 0).is_empty());
+    let (rack, (b, d)) = (rack().rack(), rack().images());
+    assert_eq!(calls::view(&rack, &b, &d, 0), Ok(&b[..]));
+    assert_eq!(calls::view(&rack, &b, &d, 1), Ok(&d[..]));
+    assert_eq!(calls::view(&rack, &b, &d, 2), Err(13));
+    assert_eq!(calls::view(&rack, &b[1..], &d, 0), Err(11));
     assert_eq!(calls::register_read(&rack, &b, &d, 1, 0x18), Ok(4));
     assert_eq!(calls::register_read(&rack, &b, &d, 1, 0x80), Ok(0));
     assert_eq!(calls::register_read(&rack, &b, &d, 9, 0), Err(13));
@@ -89,26 +82,23 @@ fn view_read_and_size() {
 
 #[test]
 fn ends_and_claims() {
-    let file = rack()
-        .put(0, 0, 0x18, 0x0001_0100)
-        .put(0, 0, 0x1C, 0x5030)
-        .put(0, 0, 0x20, 0x4000_3000)
-        .put(0, 0, 0x24, 0x7000_6000)
-        .put(0, 0, 0x28, 1)
-        .put(0, 0, 0x2C, 2)
-        .put(0, 0, 0x30, 0x0002_0001)
-        .put(0, 0, 4, 2)
-        .put(1, 1, 0x10, 0x1234)
-        .put(1, 1, 0x18, 0xFFFF_FFFF)
-        .put(1, 1, 0x1C, 0xFFFF_FFFF)
-        .put(1, 1, 4, 1);
-    let machine = file.machine();
+    let machine = one_of_each_placed().put(0, 0, 4, 2).put(1, 1, 4, 1).machine();
     let (rack, b, d) = (machine.rack(), machine.bridges(), machine.devices());
     let windows = calls::windows(rack, b, d, 0).unwrap();
     assert_eq!(windows.io, Ends { first: 0x1_3000, last: 0x2_5FFF });
     assert_eq!(windows.memory, Ends { first: 0x3000_0000, last: 0x400F_FFFF });
     assert_eq!(windows.prefetchable, Ends { first: 0x1_6000_0000, last: 0x2_700F_FFFF });
     assert_eq!(calls::windows(rack, b, d, 1), Err(13));
+    for (index, ends) in (0u8..).zip([windows.memory, windows.prefetchable, windows.io]) {
+        assert_eq!(calls::window(rack, b, d, 0, index), Ok(Some(ends)));
+        assert_eq!(calls::ends(rack, b, d, 0, index), Ok(Some(ends)));
+        assert_eq!(calls::window(rack, b, d, 1, index), Err(13));
+        assert_eq!(calls::ends(rack, b, d, 1, index), calls::region(rack, b, d, 1, index));
+        assert_eq!(calls::ends(rack, b, d, 2, index), Err(13));
+    }
+    assert_eq!(calls::window(rack, b, d, 0, 3), Err(13));
+    assert_eq!(calls::ends(rack, b, d, 0, 3), Err(13));
+    assert_eq!(calls::ends(rack, b, d, 1, 3), Err(13));
     assert_eq!(calls::region(rack, b, d, 1, 0), Ok(Some(Ends { first: 0x1230, last: 0x123F })));
     let top = Ends { first: u64::MAX - 0xF_FFFF, last: u64::MAX };
     assert_eq!(calls::region(rack, b, d, 1, 1), Ok(Some(top)));
@@ -129,18 +119,51 @@ fn ends_and_claims() {
 }
 
 #[test]
+fn empty_windows_have_no_ends() {
+    // Base one step above limit, in each kind; the ends are as decoded in the windows.
+    let file = File::new()
+        .bridge(255, 0)
+        .put(0, 0, 0x1C, 0x1020)
+        .put(0, 0, 0x20, 0x0010_0020)
+        .put(0, 0, 0x24, 0xFFF0_0000)
+        .put(0, 0, 0x28, 1);
+    let (rack, (b, d)) = (file.rack(), file.images());
+    let windows = calls::windows(&rack, &b, &d, 0).unwrap();
+    assert_eq!(windows.io, Ends { first: 0x2000, last: 0x1FFF });
+    assert_eq!(windows.memory, Ends { first: 0x20_0000, last: 0x1F_FFFF });
+    assert_eq!(windows.prefetchable, Ends { first: 0x1_0000_0000, last: 0xFFFF_FFFF });
+    for index in 0..3 {
+        assert_eq!(calls::ends(&rack, &b, &d, 0, index), Ok(None));
+        assert_eq!(calls::ends_of_bytes(&File::new().bridge(255, 0).0, &b, &d, 0, index), Ok(None));
+    }
+}
+
+#[test]
+fn reset_over_bytes() {
+    let records = rack().0;
+    // Whatever stands in the images, fixed bits too.
+    let (mut b, mut d) = (vec![0xEE; 64], vec![0x11; 64]);
+    assert_eq!(calls::reset_of_bytes(&records, &mut b, &mut d), Ok(()));
+    assert_eq!((b, d), rack().images());
+    // 10 before 11; refused, the images stay.
+    let bad = rack().device(0, 2, [(1, 1); 3]).0;
+    for (records, lengths, number) in [(&bad, (0, 0), 10), (&records, (0, 64), 11)] {
+        let (mut b, mut d) = (vec![0xEE; lengths.0], vec![0x11; lengths.1]);
+        let before = (b.clone(), d.clone());
+        assert_eq!(calls::reset_of_bytes(records, &mut b, &mut d), Err(number));
+        assert_eq!((b, d), before);
+    }
+}
+
+#[test]
 fn racks_that_are_refused_do_not_panic() {
-    use rackcheck::rack::{Header, Node, Rack, Region};
     // A bridge that is its own parent, a region that shifts everything away.
-    let region = Region { kind: 3, exponent: 255 };
-    let bridge = Node { parent: 0, device: 0, vendor_id: 0, device_id: 0, header: Header::Bridge };
-    let device = Node { header: Header::Device([region; 3]), ..bridge };
-    let rack =
-        Rack { host_first: 0, host_last: 0, nodes: [vec![bridge], vec![device; 400]].concat() };
+    let nodes = [vec![bridge(0, 0)], vec![device(0, 0, [(3, 255); 3]); 400]].concat();
+    let rack = Rack { host_first: 0, host_last: 0, nodes };
     let (mut b, mut d) = rackcheck::registers::reset_images(&rack);
     assert_eq!(calls::event(&rack, &mut b, &mut d, &Event::Check), Err(7));
     assert_eq!(calls::check(&rack, &b, &d), Err(7));
-    assert!(calls::view(&rack, &b, &d, 0).is_empty());
+    assert_eq!(calls::view(&rack, &b, &d, 0), Err(7));
     assert_eq!(calls::size(&rack, &mut b, &mut d, 1, 0), Err(7));
     assert_eq!(rack.greatest_depth(), 0);
     assert_eq!(File::new().device(255, 0, NO_REGIONS).machine().rack().agents(255), [255, 0]);

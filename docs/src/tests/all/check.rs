@@ -2,10 +2,10 @@
 
 use std::time::{Duration, Instant};
 
-use crate::build::{File, Random, NO_REGIONS};
+use crate::build::{full_at_work, only, File, Random, NO_REGIONS};
 use rackcheck::answer::{Fault, Kind};
 use rackcheck::check::{check, check_bus, fault_at, points};
-use rackcheck::claims::claimants;
+use rackcheck::claims::{bus_claims, claimants};
 use rackcheck::machine::Machine;
 use rackcheck::windows::Address;
 
@@ -52,15 +52,15 @@ fn first_driver() {
     // with the host driving there is one claimant only.
     let file = File::host(0x5000, 0x5FFF)
         .device(255, 0, NO_REGIONS)
-        .device(255, 1, [(2, 4), (0, 0), (0, 0)])
+        .device(255, 1, only(2, 4))
         .put(0, 1, 0x10, 0x5FF0)
         .put(0, 1, 4, 2)
         .check();
     assert_eq!(file.last(), "fault 255 memory 0000000000005FF0 0 255 1");
     // With three claimants the first driver is the holder.
     let file = File::host(0x5000, 0x5FFF)
-        .device(255, 0, [(2, 4), (0, 0), (0, 0)])
-        .device(255, 1, [(2, 4), (0, 0), (0, 0)])
+        .device(255, 0, only(2, 4))
+        .device(255, 1, only(2, 4))
         .put(0, 0, 0x10, 0x5010)
         .put(0, 1, 0x10, 0x5010)
         .put(0, 0, 4, 2)
@@ -73,8 +73,8 @@ fn first_driver() {
 fn top_of_the_spaces() {
     let top = |kind, e| {
         File::new()
-            .device(255, 0, [(kind, e), (0, 0), (0, 0)])
-            .device(255, 1, [(kind, e), (0, 0), (0, 0)])
+            .device(255, 0, only(kind, e))
+            .device(255, 1, only(kind, e))
             .put(0, 0, 0x10, u32::MAX)
             .put(0, 1, 0x10, u32::MAX)
             .put(0, 0, 0x14, u32::MAX)
@@ -91,7 +91,7 @@ fn top_of_the_spaces() {
     // address above 2 to the 32 counts. Its memory windows are everything too.
     let file = File::new()
         .bridge(255, 0)
-        .device(0, 0, [(1, 8), (0, 0), (0, 0)])
+        .device(0, 0, only(1, 8))
         .device(0, 1, NO_REGIONS)
         .put(0, 0, 0x18, 0x0001_0100)
         .put(0, 0, 0x1C, 0xF000)
@@ -116,7 +116,7 @@ fn a_check_changes_no_register() {
 }
 
 /// 3 to 8 nodes with I/O ranges that often touch each other.
-fn random_rack(random: &mut Random) -> File {
+pub fn random_rack(random: &mut Random) -> File {
     let mut file = File::host(random.below(4) << 18, random.below(4) << 18 | 0xFFF);
     let (mut bridges, mut places, mut taken) = (vec![255u8], Vec::new(), Vec::new());
     let nodes = 3 + random.below(6) as u8;
@@ -245,7 +245,7 @@ fn claims_are_constant_between_points() {
     for _ in 0..40 {
         let machine = random_rack(&mut random).machine();
         for bus in machine.rack().buses() {
-            let points = points(&machine, bus, Kind::Io);
+            let points = points(&bus_claims(&machine, bus), Kind::Io);
             let mut known = Vec::new();
             for value in 0..0x10000u32 {
                 let here = claimants(&machine, bus, 254, Address::Io(value));
@@ -269,7 +269,7 @@ fn random_memory() {
         for bus in machine.rack().buses() {
             let fault = check_bus(&machine, bus, Kind::Memory);
             faults += u32::from(fault.is_some());
-            let agents = machine.rack().agents(bus);
+            let claims = bus_claims(&machine, bus);
             let end = fault.map_or(1 << 33, |fault| fault.value);
             if let Some(fault) = fault {
                 let all = claimants(&machine, bus, fault.driver, Address::Memory(fault.value));
@@ -279,7 +279,7 @@ fn random_memory() {
                 let bits = random.below(34);
                 let address = random.next() & ((1 << bits) - 1);
                 if address < end {
-                    assert_eq!(fault_at(&machine, &agents, bus, Kind::Memory, address), None);
+                    assert_eq!(fault_at(&claims, bus, Kind::Memory, address), None);
                 }
             }
         }
@@ -306,12 +306,7 @@ fn whole_check_is_the_first_bus_and_kind() {
 /// check has to try everything.
 #[test]
 fn full_rack_is_quick() {
-    let file = (0..16).fold(File::new(), |file, device| file.bridge(255, device));
-    let file = (0..16).fold(file, |file, device| file.bridge(0, device));
-    let file =
-        (0..64).fold(file, |file, n| file.device(1 + n / 16, n % 16, [(1, 8), (2, 12), (3, 31)]));
-    let (rack, _) = rackcheck::file::read(&file.0).unwrap();
-    let mut machine = Machine::at_reset(rack).unwrap();
+    let mut machine = File::full([(1, 8), (2, 12), (3, 31)]).machine();
     for bridge in 0..32u8 {
         let window = u32::from(bridge % 16) << 4;
         machine.write(bridge, 0x1C, 15, window | window << 8);
@@ -332,9 +327,18 @@ fn full_rack_is_quick() {
         machine.write(device, 0x20, 15, place << 31);
         machine.write(device, 0x24, 15, place);
     }
-    let start = Instant::now();
-    assert_eq!(check(&machine), None);
-    let took = start.elapsed();
-    println!("full rack, all points tried: {took:?}");
-    assert!(took < Duration::from_millis(500), "{took:?}");
+    println!("full rack, all points tried: {:?}", passes_quickly(&machine));
+    println!("full rack at work: {:?}", passes_quickly(&full_at_work()));
+}
+
+/// The time of a check that passes: the best of five, so that a busy machine does not count.
+fn passes_quickly(machine: &Machine) -> Duration {
+    let times = [(); 5].map(|()| {
+        let start = Instant::now();
+        assert_eq!(check(machine), None);
+        start.elapsed()
+    });
+    let took = times.into_iter().min().unwrap();
+    assert!(took < Duration::from_millis(20), "{took:?}");
+    took
 }

@@ -1,6 +1,8 @@
 //! The twelve items of "Windows and racks to prove".
 
-use crate::build::{File, NO_REGIONS};
+use std::fmt::UpperHex;
+
+use crate::build::{only, File, NO_REGIONS};
 use rackcheck::claims::claims;
 use rackcheck::windows::{Address, Windows};
 
@@ -11,22 +13,21 @@ fn windows(writes: &[(u8, u32)]) -> Windows {
     Windows::of(file.machine().part(0))
 }
 
-fn io(windows: &Windows, inside: &[u32], outside: &[u32]) {
+fn in_and_out<A: Copy + UpperHex>(hold: impl Fn(A) -> bool, inside: &[A], outside: &[A]) {
     for address in inside {
-        assert!(windows.hold_io(*address), "{address:X} should be in");
+        assert!(hold(*address), "{address:X} should be in");
     }
     for address in outside {
-        assert!(!windows.hold_io(*address), "{address:X} should be out");
+        assert!(!hold(*address), "{address:X} should be out");
     }
 }
 
+fn io(windows: &Windows, inside: &[u32], outside: &[u32]) {
+    in_and_out(|address| windows.hold_io(address), inside, outside);
+}
+
 fn memory(windows: &Windows, inside: &[u64], outside: &[u64]) {
-    for address in inside {
-        assert!(windows.hold_memory(*address), "{address:X} should be in");
-    }
-    for address in outside {
-        assert!(!windows.hold_memory(*address), "{address:X} should be out");
-    }
+    in_and_out(|address| windows.hold_memory(address), inside, outside);
 }
 
 const ISA: u32 = 0x0004_0000;
@@ -97,7 +98,7 @@ fn item_07_prefetchable() {
 
 #[test]
 fn item_08_sizing() {
-    let file = File::new().device(255, 0, [(2, 12), (0, 0), (0, 0)]);
+    let file = File::new().device(255, 0, only(2, 12));
     let mut machine = file.machine();
     assert_eq!(machine.size(0, 0), 0x1000);
     assert_eq!(machine, file.machine());
@@ -107,8 +108,7 @@ fn item_08_sizing() {
 #[test]
 fn item_09_write_1_to_clear() {
     let file = File::new().device(255, 0, NO_REGIONS);
-    let (rack, _) = rackcheck::file::read(&file.0).unwrap();
-    let mut image = file.machine().devices().to_vec();
+    let (rack, (_, mut image)) = (file.rack(), file.images());
     image[7] = 0xA0;
     let written = (0x04, 15, 0x2000_0000);
     rackcheck::calls::register_write(&rack, &mut [], &mut image, 0, written).unwrap();
@@ -129,7 +129,7 @@ fn item_10_secondary_0() {
 }
 
 fn item_11_rack() -> File {
-    File::new().bridge(255, 0).device(0, 0, [(2, 12), (0, 0), (0, 0)])
+    File::new().bridge(255, 0).device(0, 0, only(2, 12))
 }
 
 /// Bridge 0: command 4; device 1: command 2 and 90000000h.

@@ -9,3 +9,4 @@ mod random;
 mod refusals;
 mod registers;
 mod routes;
+mod script;

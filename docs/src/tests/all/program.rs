@@ -1,28 +1,15 @@
 //! The worked example of "The program", and the binary itself.
 
-use std::io::Write;
-use std::process::{Command, Stdio};
-
-use crate::build::{File, NO_REGIONS};
+use crate::build::{hex, only, File, NO_REGIONS};
 
 fn example() -> Vec<u8> {
-    let text = "01 0100000000000000 0000000000000000 02 FF 01 34 12 10 00 05 00 08 00 \
-                06 FF 00 0000000000000000 08";
-    let digits: Vec<char> = text.chars().filter(|c| !c.is_whitespace()).collect();
-    let pairs = digits.chunks(2).map(|pair| pair.iter().collect::<String>());
-    pairs.map(|pair| u8::from_str_radix(&pair, 16).unwrap()).collect()
+    hex("01 0100000000000000 0000000000000000 02 FF 01 34 12 10 00 05 00 08 00 \
+         06 FF 00 0000000000000000 08")
 }
 
 fn binary(input: &[u8]) -> (String, bool) {
-    let mut child = Command::new(env!("CARGO_BIN_EXE_rackcheck"))
-        .stdin(Stdio::piped())
-        .stdout(Stdio::piped())
-        .spawn()
-        .unwrap();
-    // The program stops reading after 65,537 bytes, so that a longer input may break the pipe.
-    let _ = child.stdin.take().unwrap().write_all(input);
-    let done = child.wait_with_output().unwrap();
-    (String::from_utf8(done.stdout).unwrap(), done.status.success())
+    let (out, ended_well) = crate::build::binary(env!("CARGO_BIN_EXE_rackcheck"), input);
+    (String::from_utf8(out).unwrap(), ended_well)
 }
 
 #[test]
@@ -60,7 +47,7 @@ fn every_ending_once() {
     let file = File::host(0x1000, 0x1FFF)
         .bridge(255, 1)
         .device(255, 2, [(2, 12), (1, 4), (0, 0)])
-        .device(255, 3, [(2, 12), (0, 0), (0, 0)])
+        .device(255, 3, only(2, 12))
         .get(0, 2, 0x00)
         .put(0, 2, 0x10, 0xABCD_E000)
         .put(0, 2, 0x18, 0x0000_FFF0)
@@ -105,10 +92,9 @@ fn depth_counts_buses_without_nodes() {
 
 #[test]
 fn enables_0_are_stored_and_a_fault_does_not_stop() {
-    let regions = [(1, 2), (0, 0), (0, 0)];
     let file = File::new()
-        .device(255, 0, regions)
-        .device(255, 1, regions)
+        .device(255, 0, only(1, 2))
+        .device(255, 1, only(1, 2))
         .put_bytes(0, 0, 4, 0, 7)
         .get(0, 0, 4)
         .put(0, 0, 4, 1)

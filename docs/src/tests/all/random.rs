@@ -18,12 +18,10 @@ fn any_bytes() {
     let mut random = Random(10);
     for _ in 0..20_000 {
         let length = random.below(200) as usize;
-        let bytes: Vec<u8> = (0..length).map(|_| random.byte()).collect();
-        well_formed(&bytes);
+        well_formed(&random.bytes(length));
     }
     for length in [0, 1, 65_535, 65_536, 65_537, 100_000] {
-        let bytes: Vec<u8> = (0..length).map(|_| random.byte()).collect();
-        well_formed(&bytes);
+        well_formed(&random.bytes(length));
     }
 }
 
@@ -39,7 +37,7 @@ fn every_short_string() {
 }
 
 /// Records with small random fields, so that many files are not refused.
-fn records(random: &mut Random) -> Vec<u8> {
+pub fn records(random: &mut Random) -> Vec<u8> {
     let mut bytes = vec![1];
     bytes.extend((0..16).map(|_| random.pick(&[0, 0, 1, 0xFF])));
     let nodes = random.below(8) as u8;
@@ -58,12 +56,11 @@ fn records(random: &mut Random) -> Vec<u8> {
             random.pick(&[4, 4, 0x10, 0x18, 0x18, 0x1C, 0x20, 0x24, 0x28, 0x2C, 0x30, 0x3C, 0x40]);
         let kind = random.pick(&[4, 4, 4, 5, 6, 7, 8]);
         bytes.push(kind);
-        let any = |random: &mut Random, n| (0..n).map(|_| random.byte()).collect::<Vec<u8>>();
         match kind {
             4 => {
                 bytes.extend([bus, device, register, random.pick(&[15, 15, 15, 1, 6])]);
                 bytes.extend(match random.below(3) {
-                    0 => any(random, 4),
+                    0 => random.bytes(4),
                     1 => vec![0xFF; 4],
                     _ => vec![7, random.below(3) as u8, 3, 0],
                 });
@@ -76,7 +73,7 @@ fn records(random: &mut Random) -> Vec<u8> {
                 bytes.extend(if random.one_in(3) {
                     vec![0xFF; length]
                 } else {
-                    any(random, length)
+                    random.bytes(length)
                 });
             }
             _ => {}

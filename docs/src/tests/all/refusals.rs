@@ -1,8 +1,8 @@
 //! "Refused, in this order": each number, and several faults at once.
 
-use crate::build::{File, NO_REGIONS};
+use crate::build::{bridge, device, only, File, NO_REGIONS};
 use rackcheck::machine::Machine;
-use rackcheck::rack::{Header, Node, Rack, Region};
+use rackcheck::rack::{Node, Rack};
 use rackcheck::refuse::{self, Fields};
 
 fn refused(file: File, number: u8, offset: usize) {
@@ -13,6 +13,13 @@ fn refused(file: File, number: u8, offset: usize) {
 
 fn accepted(file: File) {
     assert!(rackcheck::file::read(&file.0).is_ok());
+}
+
+fn accepted_if(good: bool, file: File, number: u8, offset: usize) {
+    match good {
+        true => accepted(file),
+        false => refused(file, number, offset),
+    }
 }
 
 #[test]
@@ -65,25 +72,18 @@ fn r05_rack_record_after_event() {
     refused(File::new().check().device(9, 99, [(9, 9); 3]), 5, 18); // before 7, 8, 10
 }
 
-/// 32 bridges and 64 devices, 16 to a bus.
-fn full() -> File {
-    let file = (0..16).fold(File::new(), |file, device| file.bridge(255, device));
-    let file = (0..16).fold(file, |file, device| file.bridge(0, device));
-    (0..64).fold(file, |file, n| file.device(1 + n / 16, n % 16, NO_REGIONS))
-}
-
 #[test]
 fn r06_too_many() {
+    let full = || File::full(NO_REGIONS);
     accepted(full());
     let at = 17 + 32 * 7 + 64 * 13;
     refused(full().bridge(10, 0), 6, at);
     refused(full().device(10, 0, NO_REGIONS), 6, at);
     refused(full().bridge(99, 99), 6, at); // before 7 and 8
     refused(full().device(1, 0, [(9, 9); 3]), 6, at); // before 9 and 10
-                                                      // A 64th device after the 32nd bridge, and a 33rd bridge before it.
-    let file = (0..16).fold(File::new(), |file, device| file.bridge(255, device));
-    let file = (0..16).fold(file, |file, device| file.bridge(0, device));
-    refused(file.bridge(1, 0), 6, 17 + 32 * 7);
+
+    // A 64th device after the 32nd bridge, and a 33rd bridge before it.
+    refused(File::all_bridges().bridge(1, 0), 6, 17 + 32 * 7);
 }
 
 #[test]
@@ -123,29 +123,19 @@ fn r10_regions() {
             for place in 0..3 {
                 let mut regions = NO_REGIONS;
                 regions[place] = (kind, e);
-                let file = File::new().device(255, 0, regions);
-                match good {
-                    true => accepted(file),
-                    false => refused(file, 10, 17),
-                }
+                accepted_if(good, File::new().device(255, 0, regions), 10, 17);
             }
         }
     }
 }
 
-fn rack(file: &File) -> Rack {
-    rackcheck::file::read(&file.0).unwrap().0
-}
-
 #[test]
 fn r11_image_lengths() {
     let file = File::new().bridge(255, 0).device(255, 1, NO_REGIONS).device(255, 2, NO_REGIONS);
-    let rack = rack(&file);
+    let rack = file.rack();
     for bridges in [0, 63, 64, 65, 128] {
         for devices in [0, 64, 127, 128, 129, 192] {
-            let machine = file.machine();
-            let mut b = machine.bridges().to_vec();
-            let mut d = machine.devices().to_vec();
+            let (mut b, mut d) = file.images();
             b.resize(bridges, 0);
             d.resize(devices, 0);
             let expected = if (bridges, devices) == (64, 128) { None } else { Some(11) };
@@ -157,13 +147,13 @@ fn r11_image_lengths() {
 #[test]
 fn r12_fixed_bits() {
     let file = File::new().bridge(255, 0).device(255, 1, [(1, 3), (2, 4), (3, 31)]);
-    let rack = rack(&file);
-    let reset = file.machine();
-    assert_eq!(refuse::images(&rack, reset.bridges(), reset.devices()), None);
+    let rack = file.rack();
+    let reset = file.images();
+    assert_eq!(refuse::images(&rack, &reset.0, &reset.1), None);
     for (number, node) in rack.numbered() {
         let masks = rackcheck::registers::masks(node);
         for bit in 0..64 * 8 {
-            let (mut b, mut d) = (reset.bridges().to_vec(), reset.devices().to_vec());
+            let (mut b, mut d) = reset.clone();
             let image = if number == 0 { &mut b } else { &mut d };
             image[bit / 8] ^= 1 << (bit % 8);
             let changes = (masks.write[bit / 8] | masks.clear[bit / 8]) >> (bit % 8) & 1 == 1;
@@ -178,32 +168,19 @@ fn r13_in_a_file() {
     let rack = || File::new().bridge(255, 0).device(255, 1, NO_REGIONS);
     for register in 0..=255u8 {
         for file in [rack().put(0, 0, register, 0), rack().get(0, 0, register)] {
-            match register % 4 {
-                0 => accepted(file),
-                _ => refused(file, 13, 37),
-            }
+            accepted_if(register % 4 == 0, file, 13, 37);
         }
     }
     for enables in 0..=255u8 {
-        let file = rack().put_bytes(0, 0, 0, enables, 0);
-        match enables {
-            0..=15 => accepted(file),
-            _ => refused(file, 13, 37),
-        }
+        accepted_if(enables <= 15, rack().put_bytes(0, 0, 0, enables, 0), 13, 37);
     }
     for value in 0..=255u8 {
         for file in [rack().memory(255, value, 0), rack().io(255, value, 0)] {
-            match value {
-                0 | 1 => accepted(file),
-                _ => refused(file, 13, 37),
-            }
+            accepted_if(value <= 1, file, 13, 37);
         }
         // Neither host nor device: bridge 0 and every number without a node.
         for file in [rack().memory(value, 0, 0), rack().io(value, 0, 0)] {
-            match value {
-                1 | 255 => accepted(file),
-                _ => refused(file, 13, 37),
-            }
+            accepted_if(value == 1 || value == 255, file, 13, 37);
         }
     }
 }
@@ -218,16 +195,6 @@ fn first_faulty_record_wins_over_lower_number() {
     refused(File::new().memory(0, 0, 0).raw(&[6, 0]), 13, 17);
 }
 
-fn bridge(parent: u8, device: u8) -> Node {
-    Node { parent, device, vendor_id: 1, device_id: 2, header: Header::Bridge }
-}
-
-fn device(parent: u8, device: u8, region: (u8, u8)) -> Node {
-    let region = Region { kind: region.0, exponent: region.1 };
-    let header = Header::Device([region, Region::default(), Region::default()]);
-    Node { parent, device, vendor_id: 1, device_id: 2, header }
-}
-
 fn decoded(nodes: Vec<Node>) -> Rack {
     Rack { host_first: 0, host_last: 0, nodes }
 }
@@ -239,19 +206,19 @@ fn decoded_racks() {
     assert_eq!(number(vec![bridge(255, 0); 2]), Some(9));
     assert_eq!(number(vec![bridge(0, 0)]), Some(7));
     assert_eq!(number(vec![bridge(255, 16)]), Some(8));
-    assert_eq!(number(vec![device(255, 0, (1, 9))]), Some(10));
+    assert_eq!(number(vec![device(255, 0, only(1, 9))]), Some(10));
     // "node by node, as a file would meet them": 10 of node 0 before 7 of node 1.
-    assert_eq!(number(vec![device(255, 0, (1, 9)), bridge(9, 9)]), Some(10));
+    assert_eq!(number(vec![device(255, 0, only(1, 9)), bridge(9, 9)]), Some(10));
     let chain = |n: u8| (0..n).map(|i| bridge(if i == 0 { 255 } else { i - 1 }, 0)).collect();
     assert_eq!(number(chain(32)), None);
     assert_eq!(number(chain(33)), Some(6));
     assert_eq!(number(chain(200)), Some(6));
-    assert_eq!(number(vec![device(255, 0, (0, 0)); 1000]), Some(9));
+    assert_eq!(number(vec![device(255, 0, NO_REGIONS); 1000]), Some(9));
 }
 
 #[test]
 fn calls_in_order() {
-    let good = decoded(vec![bridge(255, 0), device(0, 0, (2, 12))]);
+    let good = decoded(vec![bridge(255, 0), device(0, 0, only(2, 12))]);
     let reset = Machine::at_reset(good.clone()).unwrap();
     let (b, d) = (reset.bridges().to_vec(), reset.devices().to_vec());
     let mut spoilt = d.clone();
@@ -262,7 +229,7 @@ fn calls_in_order() {
     assert_eq!(refuse::call(&good, &b, &d, &fault), Some(13));
     assert_eq!(refuse::call(&good, &b, &spoilt, &fault), Some(12));
     assert_eq!(refuse::call(&good, &b[1..], &spoilt, &fault), Some(11));
-    let bad = decoded(vec![bridge(255, 0), device(0, 0, (2, 3))]);
+    let bad = decoded(vec![bridge(255, 0), device(0, 0, only(2, 3))]);
     assert_eq!(refuse::call(&bad, &b[1..], &spoilt, &fault), Some(10));
     assert_eq!(Machine::with_images(bad.clone(), &b, &d).unwrap_err(), 10);
     assert_eq!(Machine::at_reset(bad).unwrap_err(), 10);
@@ -272,7 +239,7 @@ fn calls_in_order() {
 
 #[test]
 fn r13_fields_of_calls() {
-    let rack = decoded(vec![bridge(255, 0), device(0, 0, (2, 12))]);
+    let rack = decoded(vec![bridge(255, 0), device(0, 0, only(2, 12))]);
     let number = |fields| refuse::fields(&rack, &fields);
     let none = Fields::default;
     for node in 0..=255u8 {
@@ -288,6 +255,8 @@ fn r13_fields_of_calls() {
             // A kind 0 region (1 and 2 here) is there: "A kind 0 region has size 0."
             let fields = Fields { region: Some((node, region)), ..none() };
             assert_eq!(number(fields), is(node == 1 && region < 3));
+            let fields = Fields { window: Some((node, region)), ..none() };
+            assert_eq!(number(fields), is(node == 0 && region < 3));
         }
     }
 }

@@ -1,23 +1,27 @@
 //! Register rules.
 
-use crate::build::{File, Random, NO_REGIONS};
+use crate::build::{self, File, Random, NO_REGIONS};
 use rackcheck::bytes::u32_at;
-use rackcheck::rack::{Header, Node, Region};
+use rackcheck::rack::Node;
 use rackcheck::registers::{masks, read, region_register, size, write, written, PART};
 
 fn bridge() -> Node {
-    Node { parent: 255, device: 0, vendor_id: 0x1234, device_id: 0x0010, header: Header::Bridge }
+    build::bridge(255, 0)
 }
 
 fn device(regions: [(u8, u8); 3]) -> Node {
-    let regions = regions.map(|(kind, exponent)| Region { kind, exponent });
-    Node {
-        parent: 255,
-        device: 0,
-        vendor_id: 0x5678,
-        device_id: 0x0020,
-        header: Header::Device(regions),
+    build::device(255, 0, regions)
+}
+
+/// Rows of register, reset value, writable and cleared bits.
+fn rows_stand(node: &Node, rows: [(usize, u32, u32, u32); 16]) {
+    let masks = masks(node);
+    for (register, reset, writable, clear) in rows {
+        assert_eq!(u32_at(&masks.reset, register), reset, "reset {register:X}");
+        assert_eq!(u32_at(&masks.write, register), writable, "write {register:X}");
+        assert_eq!(u32_at(&masks.clear, register), clear, "clear {register:X}");
     }
+    assert!(rows.iter().map(|row| row.0).eq((0..64).step_by(4)));
 }
 
 /// Every region kind with every exponent.
@@ -28,7 +32,6 @@ fn all_regions() -> Vec<(u8, u8)> {
 
 #[test]
 fn bridge_reset_and_masks_as_dwords() {
-    let masks = masks(&bridge());
     let rows = [
         // register, reset, writable, clear
         (0x00, 0x0010_1234, 0, 0),
@@ -48,16 +51,11 @@ fn bridge_reset_and_masks_as_dwords() {
         (0x38, 0, 0, 0),
         (0x3C, 0, 0x003F_00FF, 0),
     ];
-    for (register, reset, writable, clear) in rows {
-        assert_eq!(u32_at(&masks.reset, register), reset, "reset {register:X}");
-        assert_eq!(u32_at(&masks.write, register), writable, "write {register:X}");
-        assert_eq!(u32_at(&masks.clear, register), clear, "clear {register:X}");
-    }
+    rows_stand(&bridge(), rows);
 }
 
 #[test]
 fn device_reset_and_masks_as_dwords() {
-    let masks = masks(&device([(1, 8), (2, 20), (3, 31)]));
     let rows = [
         (0x00, 0x0020_5678, 0, 0),
         (0x04, 0, 0x0000_0147, 0xF900_0000),
@@ -76,11 +74,7 @@ fn device_reset_and_masks_as_dwords() {
         (0x38, 0, 0, 0),
         (0x3C, 0, 0x0000_00FF, 0),
     ];
-    for (register, reset, writable, clear) in rows {
-        assert_eq!(u32_at(&masks.reset, register), reset, "reset {register:X}");
-        assert_eq!(u32_at(&masks.write, register), writable, "write {register:X}");
-        assert_eq!(u32_at(&masks.clear, register), clear, "clear {register:X}");
-    }
+    rows_stand(&device([(1, 8), (2, 20), (3, 31)]), rows);
 }
 
 #[test]

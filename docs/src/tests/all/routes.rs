@@ -1,6 +1,6 @@
 //! Routes: up, down, peer to peer, aborts and the status bits that they leave.
 
-use crate::build::{File, NO_REGIONS};
+use crate::build::{only, File, NO_REGIONS};
 
 const B13: u16 = 1 << 13;
 const B12: u16 = 1 << 12;
@@ -366,7 +366,7 @@ fn longest_way() {
         (first..first + 15).fold(file, |file, parent| file.bridge(parent, 0))
     };
     let file = chain(chain(File::new(), 0, 0), 1, 16);
-    let file = file.device(15, 1, [(2, 4), (0, 0), (0, 0)]).device(31, 1, NO_REGIONS);
+    let file = file.device(15, 1, only(2, 4)).device(31, 1, NO_REGIONS);
     // Buses 1 to 16 and 17 to 32.
     let numbered = |file: File, root: u8, first: u8| {
         let file = file.put(0, root, 0x18, u32::from(first) << 8 | u32::from(first + 15) << 16);

@@ -1,0 +1,59 @@
+// The calls, each with its answer as eight numbers; what is returned is 0 or the refusal's number.
+use crate::asked::Asked;
+use calls::Number;
+use calls::decoded::read_register;
+use calls::decoded::run_check;
+use calls::decoded::run_event;
+use calls::decoded::size_region;
+use calls::decoded::window_ends;
+use calls::decoded::write_register;
+use muzgante::answer::put_answer;
+use muzgante::answer::put_ends;
+use rack::Rack;
+use rackfile::events::event_in;
+
+fn put_number(answer: &mut [u64; 8], n: Number) -> u8 {
+    match n {
+        Number::Refused(refusal) => refusal,
+        Number::Value(value) => {
+            answer[0] = value;
+            0
+        }
+    }
+}
+
+// A view gives no number: its part is empty where it is refused.
+pub fn make(
+    a: Asked,
+    rack: Rack,
+    event: &[u8],
+    bridges: &mut [u8],
+    devices: &mut [u8],
+    answer: &mut [u64; 8],
+) -> u8 {
+    if a.operation == 1 {
+        return put_number(
+            answer,
+            read_register(rack, bridges, devices, a.node, a.index),
+        );
+    }
+    if a.operation == 2 {
+        return write_register(rack, bridges, devices, a.node, a.index, a.enables, a.put);
+    }
+    if a.operation == 4 {
+        return put_number(answer, size_region(rack, bridges, devices, a.node, a.index));
+    }
+    if a.operation == 5 {
+        return put_ends(answer, window_ends(rack, bridges, devices, a.node, a.index));
+    }
+    if a.operation == 6 {
+        return put_answer(
+            answer,
+            run_event(rack, bridges, devices, event_in(event, 0)),
+        );
+    }
+    if a.operation == 7 {
+        return put_answer(answer, run_check(rack, bridges, devices));
+    }
+    0
+}

@@ -1,0 +1,27 @@
+// The check, for C.
+ghost use mathlib.Core.Path.{_≡_};
+ghost use Rattle.registers.specs.Image.{images};
+ghost use Rattle.muzgante.specs.Called.{called, rackCheck};
+use crate::answer::put_answer;
+use crate::answer::refuse;
+use rackfile::load::load_alone;
+use rackfile::record::host_in;
+
+// The check of a rack with its registers. Returns 0, or the refusal's number with `answer` all 0.
+#[no_mangle]
+pub extern "C" fn rack_check<'a>(
+    rack: &[u8],
+    bridges: &'a [u8],
+    devices: &'a [u8],
+    answer: &mut [u64; 8],
+) -> u8
+    ensures { λ r. ⌜ called r (now (answer .exit)) (now (bridges .entry)) (now (devices .entry)) ≡ rackCheck (now (rack .entry)) (images (now (bridges .entry)) (now (devices .entry))) ⌝ }
+{
+    let l = load_alone(rack);
+    if l.refusal != 0 {
+        return refuse(answer, l.refusal);
+    }
+    let host = host_in(rack, 0);
+    let a = calls::runs::check_on(&l.words, l.count, bridges, devices, host);
+    put_answer(answer, a)
+}

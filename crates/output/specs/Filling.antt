@@ -1,0 +1,63 @@
+-- The output in parts: as many whole lines as a buffer has room for, and where the next part begins.
+-- Assumes nothing: these are definitions.
+use Prim.Native.Nat.{ℕ, zero, suc, _+_, _-_}
+use mathlib.Core.Bool.{Bool, _||_, cond}
+use mathlib.Core.List.{List, [], _++_}
+use lib.Dec.{leb, ltb}
+use lib.ListN.{length, drop}
+use Rattle.rack.specs.Tree.{Tree}
+use Rattle.registers.specs.Image.{Images, images}
+use Rattle.window.specs.declared.Range.{Range}
+use Rattle.rackfile.specs.Number.{byteIn}
+use Rattle.rackfile.specs.Record.{sizeOf}
+use Rattle.rackfile.specs.Events.{eventIn}
+use Rattle.simulator.specs.Answers.{Answered}
+use Rattle.simulator.specs.Run.{eventRun}
+use Rattle.output.specs.declared.Cursor.{Cursor}
+use Rattle.output.specs.Output.{answerLine}
+
+-- a text, the cursor behind it, and both images then
+pub record Part : Type 0 where
+  pub text : List ℕ
+  pub next : Cursor
+  pub after : Images
+
+-- nothing more
+abbrev pub stop : Cursor → Images → Part
+stop at im = record { text = []; next = at; after = im }
+
+-- a line and what follows it
+abbrev pub behind : List ℕ → Part → Part
+behind line p = record { text = line ++ p .text; next = p .next; after = p .after }
+
+-- the cursor behind the event at a cursor
+abbrev pub past : List ℕ → Cursor → Cursor
+past b at = record { offset = at .offset + sizeOf (byteIn b (at .offset)); number = at .number + 1 }
+
+-- the event at a cursor, run
+abbrev pub ranAt : Tree → Range → List ℕ → Cursor → Images → Answered
+ranAt t h b at im = eventRun t h im (eventIn b (at .offset))
+
+-- its line
+abbrev pub lineAt : Tree → Range → List ℕ → Cursor → Images → List ℕ
+lineAt t h b at im = answerLine (at .number) (ranAt t h b at im .answer)
+
+-- the file has ended, or the buffer has no room for the longest line
+abbrev pub ends : List ℕ → ℕ → Cursor → Bool
+ends b room at = leb (length b) (at .offset) || ltb room 96
+
+-- whole lines from a cursor on, at most `left` of them
+unfoldable pub partUpTo : ℕ → Tree → Range → List ℕ → ℕ → Cursor → Images → Part
+partUpTo zero t h b room at im = stop at im
+partUpTo (suc left) t h b room at im =
+    cond (ends b room at) (stop at im)
+    (behind (lineAt t h b at im)
+    (partUpTo left t h b (room - length (lineAt t h b at im)) (past b at) (ranAt t h b at im .after)))
+
+-- as many whole lines as a buffer of `room` bytes takes
+abbrev pub partOf : Tree → Range → List ℕ → ℕ → Cursor → Images → Part
+partOf t h b room at im = partUpTo (length b) t h b room at im
+
+-- a buffer with a text written over its start
+abbrev pub overStart : List ℕ → List ℕ → List ℕ
+overStart out text = text ++ drop (length text) out

@@ -1,0 +1,53 @@
+-- What a rack file prints: the lines of its events, each on the registers that the one before left.
+-- Assumes nothing: these are definitions.
+use Prim.Native.Nat.{ℕ, zero, suc, _+_, _*_}
+use mathlib.Core.Bool.{cond}
+use mathlib.Core.List.{List, [], _∷_, _++_}
+use lib.Dec.{leb, eqb}
+use lib.ListN.{length, replicate}
+use Rattle.rack.specs.Tree.{Tree, bridgeCount, deviceCount}
+use Rattle.registers.specs.Image.{Images, images}
+use Rattle.registers.specs.Reset.{resetImages}
+use Rattle.window.specs.declared.Range.{Range}
+use Rattle.rackfile.specs.declared.Event.{Event}
+use Rattle.rackfile.specs.Number.{byteIn}
+use Rattle.rackfile.specs.Record.{sizeOf}
+use Rattle.rackfile.specs.Events.{eventIn}
+use Rattle.rackfile.specs.Load.{fileIn, hostOf}
+use Rattle.simulator.specs.declared.Answer.{Answer}
+use Rattle.simulator.specs.declared.Answer.the-variants.{Refused, Ended, Checked}
+use Rattle.simulator.specs.Run.{eventRun}
+use Rattle.listing.specs.Line.{endingLine, reportLine, refusedLine}
+
+-- the line of an answer; a run refuses no event (`output_laws`, `none-refused`), so there is nothing to print of that
+abbrev pub answerLine : ℕ → Answer → List ℕ
+answerLine n (Refused refusal) = []
+answerLine n (Ended e) = endingLine n e
+answerLine n (Checked r) = reportLine n r
+
+-- the lines of a list of events, numbered from n, each on the images that the one before left
+unfoldable pub linesOf : Tree → Range → ℕ → Images → List Event → List ℕ
+linesOf t h n im [] = []
+linesOf t h n im (e ∷ events) =
+    answerLine n (eventRun t h im e .answer) ++ linesOf t h (n + 1) (eventRun t h im e .after) events
+
+-- the events of a file from an offset on, at most `left` of them
+unfoldable pub eventsUpTo : ℕ → List ℕ → ℕ → List Event
+eventsUpTo zero b o = []
+eventsUpTo (suc left) b o = cond (leb (length b) o) [] (eventIn b o ∷ eventsUpTo left b (o + sizeOf (byteIn b o)))
+
+-- a record has at least one byte, so there are no more of them than bytes
+abbrev pub eventsAt : List ℕ → ℕ → List Event
+eventsAt b o = eventsUpTo (length b) b o
+
+-- the images of a rack at reset
+abbrev pub blank : Tree → Images
+blank t = images (replicate (64 * bridgeCount t) 0) (replicate (64 * deviceCount t) 0)
+
+-- 01: '`rackrun` reads a rack file from standard input, checks all of it, then runs it from reset'; 'A refused input prints only
+-- `refused N at O`'
+unfoldable pub outputOf : List ℕ → List ℕ
+outputOf b =
+    cond (eqb (fileIn b .refusal) 0)
+    (linesOf (fileIn b .tree) (hostOf b) 1 (resetImages (fileIn b .tree) (blank (fileIn b .tree))) (eventsAt b (fileIn b .offset)))
+    (refusedLine (fileIn b .refusal) (fileIn b .offset))

@@ -1,0 +1,62 @@
+// The line of one event, and its bytes into a buffer.
+ghost use mathlib.Core.Path.{_≡_};
+ghost use mathlib.Core.List.{_++_};
+ghost use Prim.Native.Nat.{_+_, _≤_};
+ghost use lib.ListN.{length, take, drop};
+ghost use Rattle.rack.specs.Table.{treeOf};
+ghost use Rattle.rack.specs.Refusal.{rackRefusal};
+ghost use Rattle.registers.specs.Image.{images};
+ghost use Rattle.listing.specs.Line.{textOf};
+ghost use Rattle.output.specs.Output.{answerLine};
+ghost use Rattle.output.specs.Filling.{ranAt, lineAt};
+use crate::Cursor;
+use listing::Line;
+use listing::ending::ending_line;
+use listing::report::report_line;
+use rackfile::events::event_in;
+use simulator::Answer;
+use simulator::run::answer_event;
+use window::Range;
+
+fn answer_line(n: u32, a: Answer) -> Line
+    ensures { λ r. ⌜ (textOf r ≡ answerLine n a) × (r .len ≤ 96) ⌝ }
+{
+    match a {
+        Answer::Refused(refusal) => Line {
+            bytes: [0u8; 96],
+            len: 0,
+        },
+        Answer::Ended(e) => ending_line(n, e),
+        Answer::Checked(r) => report_line(n, r),
+    }
+}
+
+// The event at a cursor is run; its line.
+pub(crate) fn run_line(
+    file: &[u8],
+    words: &[u64; 192],
+    count: u8,
+    bridges: &mut [u8],
+    devices: &mut [u8],
+    host: Range,
+    at: Cursor,
+) -> Line
+    requires { ⌜ (rackRefusal (treeOf count (now words)) ≡ 0) × (at .offset ≤ 65536) ⌝ }
+    ensures { λ r. ⌜ (textOf r ≡ lineAt (treeOf count (now (words .entry))) host (now (file .entry)) at (images (now (bridges .entry)) (now (devices .entry)))) × (r .len ≤ 96) × (images (now (bridges .exit)) (now (devices .exit)) ≡ ranAt (treeOf count (now (words .entry))) host (now (file .entry)) at (images (now (bridges .entry)) (now (devices .entry))) .after) ⌝ }
+{
+    let e = event_in(file, at.offset);
+    let a = answer_event(words, count, bridges, devices, host, e);
+    answer_line(at.number, a)
+}
+
+// A line's bytes at an index of a buffer.
+pub(crate) fn put_line(out: &mut [u8], at: usize, line: Line)
+    requires { ⌜ (line .len ≤ 96) × (at + line .len ≤ length (now out)) ⌝ }
+    ensures { λ _. ⌜ now (out .exit) ≡ take at (now (out .entry)) ++ (textOf line ++ drop (at + line .len) (now (out .entry))) ⌝ }
+{
+    let mut i: usize = 0;
+    while i < line.len {
+        out[at + i] = line.bytes[i];
+        i += 1;
+    }
+}

@@ -1,0 +1,5 @@
+pub mod Answers
+pub mod Events
+pub mod Parts
+pub mod Calls
+pub mod Whole

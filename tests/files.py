@@ -1,0 +1,106 @@
+"""Random rack files: whole ones of several shapes, and broken ones of every refusal, with several faults at once."""
+from racks import CHECK, HOST, Firmware, Node, configuration, events, memory, random_rack, read, write
+
+MOST = 65536
+
+
+def configured(rng, bridges, devices, shape, count, checks, odd):
+    rack = random_rack(rng, bridges, devices, shape)
+    firmware = Firmware(rack)
+    return rack.records(), firmware.writes(rng, odd) + events(rng, rack, firmware, count, checks)
+
+
+def deep(rng):
+    """Up to 32 bridges in a row; a read on every bus, so that each count of crossings occurs."""
+    depth = 32 if rng.random() < 0.5 else rng.randint(2, 31)
+    rack = random_rack(rng, depth, rng.randint(1, 12), "chain")
+    firmware = Firmware(rack)
+    out = firmware.writes(rng, rng.choice((0, 0, 0.02)))
+    out += [read(bus, rng.choice((0, 8, 16, 0x78)), 0) for bus in range(depth + 2)]
+    return rack.records(), out + events(rng, rack, firmware, 40, rng.randint(0, 1))
+
+
+def full(rng):
+    return configured(rng, 32, 64, "any", 60, rng.random() < 0.3, rng.choice((0, 0.02, 0.1)))
+
+
+def wide(rng):
+    return configured(rng, rng.randint(0, 3), rng.randint(8, 40), "wide", 60, rng.randint(0, 1), rng.choice((0, 0.05, 0.3)))
+
+
+def small(rng):
+    return configured(rng, rng.randint(0, 5), rng.randint(0, 8), "any", 40, rng.randint(1, 4), rng.choice((0, 0.1, 0.4, 0.8)))
+
+
+def wild(rng):
+    """Registers without a plan: writes of anything to anything."""
+    rack = random_rack(rng, rng.randint(1, 6), rng.randint(1, 8), "any")
+    firmware = Firmware(rack)
+    out = firmware.writes(rng, 0.5)
+    out += [configuration(rng, rack, firmware) for _ in range(60)]
+    rng.shuffle(out)
+    return rack.records(), out + events(rng, rack, firmware, 20, 2)
+
+
+def bare(rng):
+    return configured(rng, rng.randint(0, 1), rng.randint(0, 2), "any", rng.randint(0, 3), rng.randint(0, 1), 0)
+
+
+def too_many(rng):
+    kind = rng.choice((2, 3))
+    rack = random_rack(rng, 32 if kind == 2 else rng.randint(5, 30), 64 if kind == 3 else rng.randint(0, 40), "any")
+    holder = rng.choice([HOST] + rack.bridges())
+    rack.nodes.append(Node(kind, holder, rng.choice((rack.free_number(rng, holder) or 0, 16))))
+    return rack.records(), [CHECK]
+
+
+def fault(rng, rack, later):
+    """One faulty record (or none) for the rack's records or the events."""
+    n = lambda: rng.randint(0, 255)
+    return rng.choice((
+        lambda: (rack, bytes([rng.choice((0, 9, 10, 255))])),
+        lambda: (rack, b"\x01" + bytes(16)),
+        lambda: (rack, Node(2, rng.choice((HOST, n(), len(rack))), n() % 20).record()),
+        lambda: (rack, Node(3, rng.choice((HOST, n())), n() % 20, [(n() % 5, n() % 40)]).record()),
+        lambda: (rack, Node(3, HOST, n() % 16, [(1, rng.choice((1, 2, 8, 9)))]).record()),
+        lambda: (later, Node(rng.choice((2, 3)), HOST, n() % 18).record()),
+        lambda: (later, b"\x01" + bytes(16)),
+        lambda: (later, bytes([rng.choice((0, 9, 255))])),
+        lambda: (later, write(0, n(), n(), n() % 32, 0)),
+        lambda: (later, read(0, n(), n())),
+        lambda: (later, memory(n(), n() % 4, 0)),
+        lambda: (later, bytes([7, rng.choice((HOST, n())), n() % 3]) + bytes(4)),
+    ))()
+
+
+def broken(rng):
+    rack, later = rng.choice((small, bare, bare))(rng)
+    for _ in range(rng.choice((1, 1, 2, 4))):
+        where, record = fault(rng, rack, later)
+        where.insert(rng.randint(0, len(where)), record)
+    if rng.random() < 0.1:
+        rng.shuffle(rack)
+    return rack, later
+
+
+def cut(rng):
+    rack, later = rng.choice((small, bare, broken))(rng)
+    file = b"".join(rack + later)
+    return [file[: rng.randint(0, len(file))]], []
+
+
+def long(rng):
+    """At and around the longest length."""
+    rack, later = bare(rng)
+    length = len(b"".join(rack + later))
+    return rack, later + [read(0, 0, 0)] * ((MOST - length) // 4 + rng.choice((-1, 0, 1)))
+
+
+SHAPES = ((small, 30), (wild, 20), (deep, 8), (full, 3), (wide, 8), (bare, 6), (too_many, 3), (broken, 16), (cut, 5), (long, 1))
+
+
+def random_file(rng):
+    """A file as its records: rack records, then events."""
+    shape = rng.choices([s for s, _ in SHAPES], [w for _, w in SHAPES])[0]
+    rack, later = shape(rng)
+    return rack + later

@@ -1,0 +1,260 @@
+"""Random racks, their configuration and accesses, as records of a rack file. Everything follows from the given generator's seed."""
+
+HOST = 255
+CHECK = b"\x08"
+COMMAND, BUSES, IO_WINDOW, MEMORY, PREFETCHABLE = 0x04, 0x18, 0x1C, 0x20, 0x24
+PREFETCHABLE_BASE_UPPER, PREFETCHABLE_LIMIT_UPPER, IO_UPPER, CONTROL = 0x28, 0x2C, 0x30, 0x3C
+EXPONENTS = {1: (2, 8), 2: (4, 31), 3: (4, 31)}
+
+
+def number(value, count):
+    return (value % (1 << 8 * count)).to_bytes(count, "little")
+
+
+def write(bus, device, register, enables, data):
+    return bytes([4, bus, device, register, enables]) + number(data, 4)
+
+
+def read(bus, device, register):
+    return bytes([5, bus, device, register])
+
+
+def memory(initiator, is_write, address):
+    return bytes([6, initiator, is_write]) + number(address, 8)
+
+
+def io(initiator, is_write, address):
+    return bytes([7, initiator, is_write]) + number(address, 4)
+
+
+class Node:
+    def __init__(self, kind, parent, device, regions=()):
+        self.kind, self.parent, self.device = kind, parent, device
+        self.regions = list(regions) + [(0, 0)] * (3 - len(regions))
+        self.ids = 0
+
+    @property
+    def is_bridge(self):
+        return self.kind == 2
+
+    def record(self):
+        head = bytes([self.kind, self.parent, self.device]) + number(self.ids, 4)
+        return head if self.is_bridge else head + bytes(x for region in self.regions for x in region)
+
+
+class Rack:
+    """A tree of nodes below a host, with the addresses and bus numbers that firmware would give it."""
+
+    def __init__(self, first, last):
+        self.first, self.last, self.nodes = first, last, []
+
+    def records(self):
+        return [b"\x01" + number(self.first, 8) + number(self.last, 8)] + [n.record() for n in self.nodes]
+
+    def on_bus(self, holder):
+        return [i for i, n in enumerate(self.nodes) if n.parent == holder]
+
+    def free_number(self, rng, holder):
+        taken = {self.nodes[i].device for i in self.on_bus(holder)}
+        free = [d for d in range(16) if d not in taken]
+        return rng.choice(free) if free else None
+
+    def add(self, rng, kind, holder, regions=()):
+        device = self.free_number(rng, holder)
+        if device is None:
+            return False
+        node = Node(kind, holder, device, regions)
+        node.ids = rng.getrandbits(32)
+        self.nodes.append(node)
+        return True
+
+    def devices(self):
+        return [i for i, n in enumerate(self.nodes) if not n.is_bridge]
+
+    def bridges(self):
+        return [i for i, n in enumerate(self.nodes) if n.is_bridge]
+
+
+def random_regions(rng, large):
+    regions = []
+    for _ in range(3):
+        kind = rng.choice((0, 1, 2, 2, 3, 3))
+        low, high = EXPONENTS.get(kind, (0, 0))
+        regions.append((kind, rng.randint(low, high if large else min(high, 16))))
+    return regions
+
+
+def random_host(rng):
+    top = (1 << 64) - 1
+    first = rng.choice((0, 0, 1, 0x10000000, 0xC0000000, top - 0xFFFF, rng.getrandbits(64)))
+    last = rng.choice((0x7FFFFFFF, 0x7FFFFFFF, 0xFFFFFFF, first, first - 1, top, rng.getrandbits(64)))
+    return Rack(first, max(last, 0))
+
+
+def random_rack(rng, bridges, devices, shape):
+    """shape: 'chain' puts each bridge below the last one, 'wide' most nodes on few buses, 'any' anything."""
+    rack = random_host(rng)
+    large = rng.random() < 0.2
+    kinds = [2] * bridges + [3] * devices
+    if shape == "any":
+        rng.shuffle(kinds)
+    for kind in kinds:
+        above = rack.bridges()
+        if shape == "chain":
+            holder = above[-1] if above and (kind == 2 or rng.random() < 0.6) else rng.choice([HOST] + above) if above else HOST
+        elif shape == "wide":
+            holder = rng.choice([HOST, HOST, HOST] + above[:2])
+        else:
+            holder = rng.choice([HOST] + above)
+        for holder in [holder] + above + [HOST]:
+            if rack.add(rng, kind, holder, random_regions(rng, large) if kind == 3 else ()):
+                break
+    return rack
+
+
+def up(value, granule):
+    return -(-value // granule) * granule
+
+
+class Firmware:
+    """Bus numbers and addresses from the top down, each bridge's windows around what lies below it."""
+
+    def __init__(self, rack):
+        self.rack, self.number, self.below, self.windows, self.bases = rack, {HOST: 0}, {}, {}, {}
+        self.next_bus = 1
+        self.at = {"memory": 0x80000000, "prefetchable": 0x100000000, "io": 0x1000}
+        self.place(HOST)
+
+    def place(self, holder):
+        for i in self.rack.on_bus(holder):
+            node = self.rack.nodes[i]
+            if node.is_bridge:
+                self.place_bridge(i)
+            else:
+                self.bases[i] = [self.region(kind, exponent) for kind, exponent in node.regions]
+
+    def place_bridge(self, i):
+        self.number[i] = self.next_bus
+        self.next_bus += 1
+        first = {}
+        for space, granule in (("memory", 1 << 20), ("prefetchable", 1 << 20), ("io", 1 << 12)):
+            first[space] = self.at[space] = up(self.at[space], granule)
+        self.place(i)
+        for space, granule in (("memory", 1 << 20), ("prefetchable", 1 << 20), ("io", 1 << 12)):
+            self.at[space] = up(self.at[space], granule)
+        self.windows[i] = {space: (first[space], self.at[space] - 1) for space in first}
+        self.below[i] = self.next_bus - 1
+
+    def region(self, kind, exponent):
+        if kind == 0:
+            return 0
+        space = {1: "io", 2: "memory", 3: "prefetchable"}[kind]
+        self.at[space] = up(self.at[space], 1 << exponent)
+        base = self.at[space]
+        self.at[space] += 1 << exponent
+        return base
+
+    def target(self, i):
+        node = self.rack.nodes[i]
+        return self.number[node.parent] % 256, 8 * node.device
+
+    def settings(self, rng, odd):
+        """What firmware writes, as (node, register, enables, data); `odd` is how often a value is not what firmware would take."""
+        out = []
+        for i, node in enumerate(self.rack.nodes):
+            out += [(i, *setting) for setting in (self.of_bridge if node.is_bridge else self.of_device)(rng, i, odd)]
+        return out
+
+    def writes(self, rng, odd):
+        return [write(*self.target(i), register, enables, data) for i, register, enables, data in self.settings(rng, odd)]
+
+    def of_device(self, rng, i, odd):
+        out = []
+        for r, (kind, exponent) in enumerate(self.rack.nodes[i].regions):
+            base = self.bases[i][r]
+            if rng.random() < odd:
+                base = rng.choice((0, base - (1 << exponent), base + (1 << exponent), (1 << 32) - (1 << exponent), rng.getrandbits(32)))
+            if kind:
+                out.append((0x10 + 8 * r, 15, base % (1 << 32)))
+            if kind == 3:
+                upper = rng.choice((0, 0xFFFFFFFF, 2)) if rng.random() < odd else base >> 32
+                out.append((0x14 + 8 * r, 15, upper % (1 << 32)))
+        return out + [(COMMAND, 3, rng.getrandbits(3) if rng.random() < odd else 7)]
+
+    def of_bridge(self, rng, i, odd):
+        secondary, subordinate = self.number[i], self.below[i]
+        if rng.random() < odd / 4:
+            secondary, subordinate = rng.choice(((0, subordinate), (secondary, secondary - 1), (secondary, 255), (0, 255), (1, 1)))
+        ends = {space: self.ends(rng, i, space, odd) for space in ("memory", "prefetchable", "io")}
+        first, last = ends["io"]
+        out = [(BUSES, 7, self.target(i)[0] | secondary % 256 << 8 | subordinate % 256 << 16)]
+        out.append((IO_WINDOW, 3, (first >> 12 & 15) << 4 | (last >> 12 & 15) << 12))
+        out.append((IO_UPPER, 15, (first >> 16 & 0xFFFF) | (last >> 16 & 0xFFFF) << 16))
+        for register, space in ((MEMORY, "memory"), (PREFETCHABLE, "prefetchable")):
+            first, last = ends[space]
+            out.append((register, 15, (first >> 20 & 0xFFF) << 4 | (last >> 20 & 0xFFF) << 20))
+        out += [(PREFETCHABLE_BASE_UPPER, 15, first >> 32), (PREFETCHABLE_LIMIT_UPPER, 15, last >> 32)]
+        out.append((CONTROL, 12, self.control(rng, odd) << 16))
+        return out + [(COMMAND, 3, rng.getrandbits(3) if rng.random() < odd else 7)]
+
+    def ends(self, rng, i, space, odd):
+        first, last = self.windows[i][space]
+        granule = 1 << 12 if space == "io" else 1 << 20
+        if rng.random() < odd:  # nearly touching, slightly overlapping, too small, upside down, everything
+            first += rng.choice((0, -granule, granule))
+            last += rng.choice((0, -granule, granule, 2 * granule))
+            if rng.random() < 0.2:
+                first, last = last, first
+            if rng.random() < 0.1:
+                first, last = 0, (1 << (64 if space == "prefetchable" else 32)) - 1
+        return first % (1 << 64), last % (1 << 64)
+
+    def control(self, rng, odd):
+        isa, vga, vga_16, master_abort = (rng.random() < odd for _ in range(4))
+        return isa << 2 | (vga and rng.random() < 0.5) << 3 | vga_16 << 4 | (master_abort or rng.random() < 0.3) << 5
+
+
+def interesting(rng, rack, firmware):
+    """An address near the end of something, with its space."""
+    points = [rack.first, rack.last, 0, 0xA0000, 0xBFFFF, 0xFFFFFFFF, (1 << 64) - 1]
+    ports = [0, 0x100, 0x3B0, 0x3BB, 0x3C0, 0x3DF, 0x7B0, 0x13B0, 0xFFFF, 0x10000, 0x103B0, 0xFFFFFFFF]
+    for i, bases in firmware.bases.items():
+        for (kind, exponent), base in zip(rack.nodes[i].regions, bases):
+            if kind:
+                (ports if kind == 1 else points).extend((base, base, base + (1 << exponent) - 1))
+    for windows in firmware.windows.values():
+        for space, ends in windows.items():
+            (ports if space == "io" else points).extend(ends)
+    is_io = rng.random() < 0.4
+    address = rng.choice(ports if is_io else points) + rng.choice((0, 0, 0, 0, 1, -1, 4, 0x100, 0x400))
+    if rng.random() < 0.05:
+        address = rng.getrandbits(32 if is_io else rng.choice((20, 32, 64)))
+    return is_io, address
+
+
+def access(rng, rack, firmware):
+    initiator = rng.choice([HOST] + rack.devices())
+    is_io, address = interesting(rng, rack, firmware)
+    return (io if is_io else memory)(initiator, rng.getrandbits(1), address)
+
+
+def configuration(rng, rack, firmware):
+    """A register of a node that is there, or now and then of none; any register, any data."""
+    bus, device = rng.randint(0, 255), rng.getrandbits(8)
+    if rack.nodes and rng.random() < 0.9:
+        bus, device = firmware.target(rng.randrange(len(rack.nodes)))
+        if rng.random() < 0.05:
+            device |= rng.getrandbits(3)
+    register = 4 * (rng.randint(0, 15) if rng.random() < 0.9 else rng.randint(0, 63))
+    if rng.random() < 0.5:
+        return read(bus, device, register)
+    return write(bus, device, register, rng.getrandbits(4), rng.choice((0, 0xFFFFFFFF, rng.getrandbits(32))))
+
+
+def events(rng, rack, firmware, count, checks):
+    out = []
+    for _ in range(count):
+        out.append(access(rng, rack, firmware) if rng.random() < 0.75 else configuration(rng, rack, firmware))
+    for _ in range(checks):
+        out.insert(rng.randint(0, len(out)), CHECK)
+    return out
