@@ -40,7 +40,7 @@ module _ (t : Tree) (h : Range) (im : Images) where
   unfolding runIn eventWrong
   check-refused ne = rw (ne-eqb (refusalBy t im false) 0 ne, checkIn)
 
-  said : (r : Report) → checkIn t h im ≡ Checked r → (refusalBy t im false ≡ 0) × (check t h im ≡ r)
+  pub said : (r : Report) → checkIn t h im ≡ Checked r → (refusalBy t im false ≡ 0) × (check t h im ≡ r)
   said r e =
       tested (eqb (refusalBy t im false) 0)
       (λ q.
@@ -77,7 +77,7 @@ Fits Check = Unit {0}
 
 module _ (t : Tree) where
   -- an initiator that 13 accepts is the host or a device
-  initiator : (i direction : ℕ) → accessWrong t i direction ≡ false → Initiator t i
+  pub initiator : (i direction : ℕ) → accessWrong t i direction ≡ false → Initiator t i
   initiator i direction e = by (eqb i host) refl
     where
       on : initiates t i ≡ true

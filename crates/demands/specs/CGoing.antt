@@ -1,0 +1,123 @@
+-- Demand 3 over the call `rack_run` from C.
+-- Assumes nothing.
+use mathlib.Core.Path.{_≡_, refl, sym, ap, _∙_}
+use mathlib.Core.List.{List}
+use Prim.Native.Nat.{ℕ, _+_, _^_, _≤_, _<_}
+use native.Mathlib.Omega.{arith}
+use lib.Dec.{eqb}
+use lib.ListN.{getD}
+use borrow.Author.Tests.{eq-eqb}
+use Rattle.rack.specs.Bools.{tested}
+use Rattle.rack.specs.Tree.{depth, greatestDepth}
+use Rattle.registers.specs.Image.{Images}
+use Rattle.claims_laws.specs.Apart.{SameButStatus}
+use Rattle.routes.specs.declared.Ending.{Ending}
+use Rattle.routes.specs.declared.Ending.the-variants.{Data, Stored, Owner, Host, Unclaimed, Clash, Silent}
+use Rattle.routes.specs.Ending.{crossingsOf}
+use Rattle.overlap.specs.declared.Report.the-variants.{Pass, Fault}
+use Rattle.rackfile.specs.Number.{byteIn, dwordIn, qwordIn}
+use Rattle.rackfile.specs.Events.{eventIn, eventBytes, eventWrong}
+use Rattle.rackfile.specs.Load.{rackAlone, hostOf}
+use Rattle.rackfile.specs.LoadLaws.{alone-accepted}
+use Rattle.simulator.specs.declared.Answer.{Answer}
+use Rattle.simulator.specs.declared.Answer.the-variants.{Refused, Ended, Checked}
+use Rattle.simulator.specs.Answers.{answerNumber, Answered}
+use Rattle.calls.specs.Call.{runIn, checkIn}
+use Rattle.muzgante.specs.Called.{Called, numbersOf, answeredCall, rackRun, rackCheck}
+use Rattle.demands.specs.Refusing.{accepts}
+use Rattle.demands.specs.Checking.{Fits, check-passes, event-agrees}
+use Rattle.demands.specs.Going.{Goes, event-goes, crossings, startBus, event-crossings}
+use Rattle.demands.specs.CRefusing.{run-refuses}
+use Rattle.demands.specs.CChecking.{number, answers, c-check-passed}
+
+-- the fields of an event that is read from bytes fit their types
+pub event-fits : (b : List ℕ) → ((k : ℕ) → getD b k 0 < 256) → (o : ℕ) → Fits (eventIn b o)
+unfolding eventIn
+event-fits b bytes o =
+    tested (eqb (byteIn b o) 4) (λ q. rw q (omega (arith, bytes (o + 1))))
+    (λ q.
+    tested (eqb (byteIn b o) 5) (λ p. rw (q, p) (omega (arith, bytes (o + 1))))
+    (λ p.
+    tested (eqb (byteIn b o) 6) (λ r. rw (q, p, r) (qword-fits (o + 3)))
+    (λ r.
+    tested (eqb (byteIn b o) 7) (λ s. rw (q, p, r, s) (dword-fits (o + 3))) (λ s. rw (q, p, r, s) tt))))
+  where
+    dword-fits : (o : ℕ) → dwordIn b o < 2 ^ 32
+    dword-fits o = omega (arith, bytes o, bytes (o + 1), bytes (o + 2), bytes (o + 2 + 1))
+
+    qword-fits : (o : ℕ) → qwordIn b o < 2 ^ 64
+    qword-fits o = omega (arith, dword-fits o, dword-fits (o + 4))
+
+-- the first two numbers of an answer
+first : (a : Answer) → getD (numbersOf a) 0 0 ≡ answerNumber a
+first (Refused n) = refl
+first (Ended e) = refl
+first (Checked r) = refl
+
+second : (a : Answer) → answerNumber a ≤ 6 → getD (numbersOf a) 1 0 ≡ crossings a
+second (Refused n) l = refl
+second (Ended e) l = ending e
+  where
+    ending : (e : Ending) → getD (numbersOf (Ended e)) 1 0 ≡ crossingsOf e
+    ending (Data c v) = refl
+    ending (Stored c) = refl
+    ending (Owner c n r o) = refl
+    ending (Host c o) = refl
+    ending (Unclaimed c h o) = refl
+    ending (Clash c h x y) = refl
+    ending Silent = refl
+second (Checked Pass) l = absurd (omega arith)
+second (Checked (Fault bus space a driver x y)) l = absurd (omega arith)
+
+module _ (b event : List ℕ) (im : Images) where
+  -- what an accepted run hands back, and what it says
+  ran : rackRun b event im .code ≡ 0
+      → rackRun b event im ≡ answeredCall (runIn (rackAlone b .tree) (hostOf b) im (eventIn event 0))
+  unfolding rackRun
+  ran c =
+      let s = run-refuses b event im .accepted c in
+      rw (eq-eqb (rackAlone b .refusal) 0 (s .0), eq-eqb (eventBytes event) 0 (s .1))
+
+  said : rackRun b event im .code ≡ 0
+      → number (rackRun b event im) ≡ answerNumber (runIn (rackAlone b .tree) (hostOf b) im (eventIn event 0) .answer)
+  said c = ap number (ran c) ∙ first (runIn (rackAlone b .tree) (hostOf b) im (eventIn event 0) .answer)
+
+  -- 'The crossings carried in its answer are at most the depth of the starting bus plus the greatest depth in the rack': the endings 1
+  -- to 6 carry them as their second number
+  pub c-run-crossings : rackRun b event im .code ≡ 0 → number (rackRun b event im) ≤ 6
+      → getD (rackRun b event im .numbers) 1 0
+      ≤ depth (rackAlone b .tree) (startBus (rackAlone b .tree) (eventIn event 0)) + greatestDepth (rackAlone b .tree)
+  c-run-crossings c l =
+      let t = rackAlone b .tree in
+      let a = runIn t (hostOf b) im (eventIn event 0) .answer in
+      let m : answerNumber a ≤ 6 = omega (arith, said c) in
+      omega (arith, event-crossings t (hostOf b) im (eventIn event 0), second a m, ap (λ (r : Called). getD (r .numbers) 1 0) (ran c))
+
+-- 'In a passed rack, with the registers it passed with, status bits aside'
+module _ (b event : List ℕ) (im im' : Images) (pass : number (rackCheck b im) ≡ 8) (same : SameButStatus (rackAlone b .tree) im im')
+    (bytes : (k : ℕ) → getD event k 0 < 256) where
+  passed : checkIn (rackAlone b .tree) (hostOf b) im ≡ Checked Pass
+  passed =
+      let s = c-check-passed b im pass in
+      check-passes (rackAlone b .tree) (hostOf b) im (alone-accepted b (s .0)) (s .1) (s .2)
+
+  -- 'every accepted configuration, memory or I/O access, whichever party starts it, is never driven, ends unclaimed, or ends at its one
+  -- owner'
+  pub c-run-goes : rackRun b event im' .code ≡ 0
+      → (r : Answered) × (rackRun b event im' ≡ answeredCall r) × Goes (rackAlone b .tree) (hostOf b) im' (eventIn event 0) r
+  c-run-goes c =
+      let t = rackAlone b .tree in
+      let e = eventIn event 0 in
+      let s = run-refuses b event im' .accepted c in
+      let z = accepts t im' (eventWrong t e) (alone-accepted b (s .0)) (s .2) (s .3) in (
+        runIn t (hostOf b) im' e,
+        ran b event im' c,
+        event-goes t (hostOf b) im im' passed same e (event-fits event bytes 0) z,
+      )
+
+  -- 'and never in a clash'
+  pub c-run-agrees : number (rackRun b event im') ≡ 6 → ⊥
+  c-run-agrees n =
+      let c = answers (run-refuses b event im' .untouched) (λ z. omega arith) in
+      event-agrees (rackAlone b .tree) (hostOf b) im im' passed same (eventIn event 0) (event-fits event bytes 0)
+      (sym (said b event im' c) ∙ n)
