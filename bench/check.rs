@@ -1,6 +1,8 @@
 // The check of a full rack of 32 bridges and 64 devices, ISA and VGA on every bridge: the proved sweep beside a plain Rust sweep
 // over the same rack, clean and faulty, in one run.
-use std::time::Instant;
+mod table;
+
+use table::{best, u16_at, u32_at, Rack};
 
 extern "C" {
     fn bench_check(
@@ -8,20 +10,8 @@ extern "C" {
     ) -> u64;
 }
 
-#[derive(Clone, Copy)]
-struct Node {
-    bridge: bool,
-    parent: u8,
-    number: u8,
-    place: usize,
-    regions: [(u8, u8); 3],
-}
-
-struct Rack {
-    nodes: Vec<Node>,
-    bridges: Vec<u8>,
-    devices: Vec<u8>,
-}
+// The same question in plain Rust.
+struct Plain(Rack);
 
 #[derive(Clone, Copy, PartialEq)]
 enum Space {
@@ -46,14 +36,6 @@ enum Agent {
     Secondary(Windows),
     Device { command: u8, areas: [(bool, u64, u64); 3] },
     Host,
-}
-
-fn u16_at(p: &[u8], at: usize) -> u64 {
-    u16::from_le_bytes([p[at], p[at + 1]]) as u64
-}
-
-fn u32_at(p: &[u8], at: usize) -> u64 {
-    u32::from_le_bytes([p[at], p[at + 1], p[at + 2], p[at + 3]]) as u64
 }
 
 fn cut(range: (u64, u64), a: u64, e: u64) -> u64 {
@@ -133,19 +115,13 @@ impl Agent {
     }
 }
 
-impl Rack {
-    fn part(&self, i: usize) -> &[u8] {
-        let n = &self.nodes[i];
-        let image = if n.bridge { &self.bridges } else { &self.devices };
-        &image[64 * n.place..64 * n.place + 64]
-    }
-
+impl Plain {
     fn agent(&self, bus: u8, g: u8) -> Agent {
         if g == 255 {
             return Agent::Host;
         }
-        let p = self.part(g as usize);
-        let n = &self.nodes[g as usize];
+        let p = self.0.part(g as usize);
+        let n = &self.0.nodes[g as usize];
         if n.bridge {
             let upper = |at: usize| (u32_at(p, at)) << 32;
             let w = Windows {
@@ -180,9 +156,9 @@ impl Rack {
 
     // the value of the first fault and one more, 0 for a pass
     fn check(&self) -> u64 {
-        let bridges = (0..self.nodes.len()).filter(|&i| self.nodes[i].bridge).map(|i| i as u8);
+        let bridges = (0..self.0.nodes.len()).filter(|&i| self.0.nodes[i].bridge).map(|i| i as u8);
         for bus in std::iter::once(255).chain(bridges) {
-            let nodes = (0..self.nodes.len() as u8).filter(|&i| self.nodes[i as usize].parent == bus);
+            let nodes = (0..self.0.nodes.len() as u8).filter(|&i| self.0.nodes[i as usize].parent == bus);
             let agents: Vec<Agent> = std::iter::once(bus).chain(nodes).map(|g| self.agent(bus, g)).collect();
             if agents.len() < 3 {
                 continue;
@@ -208,29 +184,12 @@ impl Rack {
         }
         0
     }
-
-    fn words(&self) -> Vec<u64> {
-        let mut w = vec![0u64; 192];
-        for (i, n) in self.nodes.iter().enumerate() {
-            let low = [
-                if n.bridge { 2 } else { 3 }, n.parent, n.number, n.place as u8,
-                n.regions[0].0, n.regions[0].1, n.regions[1].0, n.regions[1].1,
-            ];
-            w[2 * i] = u64::from_le_bytes(low);
-            w[2 * i + 1] = n.regions[2].0 as u64 | (n.regions[2].1 as u64) << 8;
-        }
-        w
-    }
 }
 
-// bridges in a row, each with a window inside the one above, and two devices below each; ISA as asked for, VGA always
+// each bridge with a window inside the one above; ISA as asked for, VGA always
 fn rack(bridges: usize, isa: bool, faulty: bool) -> Rack {
-    let devices = 2 * bridges;
-    let mut r = Rack { nodes: vec![], bridges: vec![0; 64 * bridges], devices: vec![0; 64 * devices] };
-    for i in 0..bridges {
-        let parent = if i == 0 { 255 } else { i as u8 - 1 };
-        r.nodes.push(Node { bridge: true, parent, number: 0, place: i, regions: [(0, 0); 3] });
-        let p = &mut r.bridges[64 * i..64 * i + 64];
+    let mut r = Rack::row(bridges);
+    for (i, p) in r.bridges.chunks_mut(64).enumerate() {
         p[4] = 7;
         p[0x18..0x1b].copy_from_slice(&[i as u8, i as u8 + 1, 255]);
         p[0x1c..0x1e].copy_from_slice(&[0x01, 0xF1]);
@@ -239,56 +198,43 @@ fn rack(bridges: usize, isa: bool, faulty: bool) -> Rack {
         p[0x24..0x28].copy_from_slice(&[0xF1, 0xFF, 0x01, 0x00]);
         p[0x3e] = if isa { 12 } else { 8 };
     }
-    for d in 0..devices {
-        let bus = d / 2;
-        r.nodes.push(Node { bridge: false, parent: bus as u8, number: 1 + (d % 2) as u8, place: d, regions: [(2, 12), (0, 0), (0, 0)] });
-        let p = &mut r.devices[64 * d..64 * d + 64];
+    for (d, p) in r.devices.chunks_mut(64).enumerate() {
         p[4] = 6;
-        let other = if faulty && d == devices - 1 { 0 } else { d % 2 };
-        let base = 0x8000_0000u32 + 0x20_0000 * bus as u32 + 0x10_0000 * other as u32;
+        let other = if faulty && d == 2 * bridges - 1 { 0 } else { d % 2 };
+        let base = 0x8000_0000u32 + 0x20_0000 * (d / 2) as u32 + 0x10_0000 * other as u32;
         p[0x10..0x14].copy_from_slice(&base.to_le_bytes());
     }
     r
 }
 
-fn best(mut f: impl FnMut() -> u64, rounds: u32) -> (f64, u64) {
-    let mut least = f64::MAX;
-    let mut value = 0;
-    for _ in 0..9 {
-        let t = Instant::now();
-        value = f();
-        least = least.min(t.elapsed().as_secs_f64() / rounds as f64 * 1e6);
-    }
-    (least, value)
-}
-
-fn measure(name: &str, mut r: Rack) {
-    let rounds = 100;
+fn measure(name: &str, r: Rack) {
+    let rounds = 100u8;
     let words = r.words();
     let count = r.nodes.len() as u8;
-    let (plain, a) = best(
-        || {
-            let mut v = 0;
-            for i in 0..rounds {
-                r.bridges[6] = i as u8;
-                v = std::hint::black_box(&r).check();
-            }
-            v
-        },
-        rounds,
-    );
-    let (b, bl, d, dl) = (r.bridges.as_ptr(), r.bridges.len(), r.devices.as_ptr(), r.devices.len());
-    let (proved, c) = best(|| unsafe { bench_check(words.as_ptr(), count, b, bl, d, dl, rounds as u8) }, rounds);
+    let (bridges, devices) = (r.bridges.clone(), r.devices.clone());
+    let mut plain = Plain(r);
+    let (slow, a) = best(|| {
+        let mut v = 0;
+        for i in 0..rounds {
+            plain.0.bridges[6] = i;
+            v = std::hint::black_box(&plain).check();
+        }
+        v
+    });
+    let (proved, c) = best(|| unsafe {
+        bench_check(words.as_ptr(), count, bridges.as_ptr(), bridges.len(), devices.as_ptr(), devices.len(), rounds)
+    });
     assert_eq!(a, c, "the two answers differ: {name}");
-    println!("{name:34}  {proved:9.1}  {plain:13.1}  {:5.2}", proved / plain);
+    let us = 1e6 / rounds as f64;
+    println!("{name:24}  {:10.1}  {:13.1}  {:5.2}", proved * us, slow * us, proved / slow);
 }
 
 fn main() {
-    println!("check                               proved us  plain Rust us  ratio");
+    println!("a check of                proved us  plain Rust us  ratio");
     measure("32 bridges, clean", rack(32, true, false));
-    measure("32 bridges, faulty at the last bus", rack(32, true, true));
-    measure("32 bridges, clean, ISA off", rack(32, false, false));
-    for n in [4, 8, 16] {
-        measure(&format!("{n} bridges, clean"), rack(n, true, false));
+    measure("32 bridges, last faulty", rack(32, true, true));
+    for n in [4, 8, 16, 32] {
+        measure(&format!("{n} bridges, ISA"), rack(n, true, false));
+        measure(&format!("{n} bridges, no ISA"), rack(n, false, false));
     }
 }

@@ -89,6 +89,14 @@ def cut(rng):
     return [file[: rng.randint(0, len(file))]], []
 
 
+def mangled(rng):
+    """A whole file with bytes changed, or no file at all."""
+    file = bytearray(b"".join(map(b"".join, small(rng))))
+    for _ in range(rng.choice((1, 1, 3, 30))):
+        file[rng.randrange(len(file))] = rng.getrandbits(8)
+    return [bytes(file) if rng.random() < 0.9 else rng.randbytes(rng.randint(0, 200))], []
+
+
 def long(rng):
     """At and around the longest length."""
     rack, later = bare(rng)
@@ -96,7 +104,7 @@ def long(rng):
     return rack, later + [read(0, 0, 0)] * ((MOST - length) // 4 + rng.choice((-1, 0, 1)))
 
 
-SHAPES = ((small, 30), (wild, 20), (deep, 8), (full, 3), (wide, 8), (bare, 6), (too_many, 3), (broken, 16), (cut, 5), (long, 1))
+SHAPES = ((small, 30), (wild, 20), (deep, 8), (full, 3), (wide, 8), (bare, 6), (too_many, 3), (broken, 16), (mangled, 8), (cut, 5), (long, 1))
 
 
 def random_file(rng):

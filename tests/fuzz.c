@@ -1,0 +1,147 @@
+/* The archive's calls on any bytes: an entry for a coverage-guided fuzzer, and a driver of its own.
+ *
+ * An input is one call of a script (CALLS.md, operations 8 to 11), its counts cut to the bytes that are there. Every buffer ends at a
+ * page that may not be touched: the archive is not compiled with a sanitizer, and a step past a buffer's end is then seen all the same.
+ * What a call promises in general is looked at: a number up to 13; on a refusal all 0 and both images untouched.
+ *
+ *     clang -g -O1 -fsanitize=fuzzer,address tests/fuzz.c -Ltarget/staticlib -lmuzgante     (libFuzzer)
+ *     tests/fuzz [CALLS [SEED]]                                                             (gcc, the driver below)
+ */
+#define _DEFAULT_SOURCE
+#include "../include/rack.h"
+
+#include <stdio.h>
+#include <stdlib.h>
+#include <string.h>
+#include <sys/mman.h>
+#include <unistd.h>
+
+int LLVMFuzzerTestOneInput(const uint8_t *input, size_t size);
+
+enum { HEAD = 18, ROOM = 1 << 18 };
+
+/* Bytes that end where a guarded page begins. */
+struct guarded {
+    uint8_t *end;
+};
+
+static struct guarded guard(void)
+{
+    size_t page = (size_t)sysconf(_SC_PAGESIZE);
+    uint8_t *at = mmap(NULL, ROOM + page, PROT_READ | PROT_WRITE, MAP_PRIVATE | MAP_ANONYMOUS, -1, 0);
+    if (at == MAP_FAILED || mprotect(at + ROOM, page, PROT_NONE) != 0) {
+        perror("fuzz");
+        exit(1);
+    }
+    return (struct guarded){at + ROOM};
+}
+
+static uint8_t *put(struct guarded g, const uint8_t *bytes, size_t count)
+{
+    return memcpy(g.end - count, bytes, count);
+}
+
+static size_t number(const uint8_t *at, int count)
+{
+    size_t value = 0;
+    for (int i = count; i > 0; i--) {
+        value = value << 8 | at[i - 1];
+    }
+    return value;
+}
+
+static size_t cut(size_t wanted, size_t *left)
+{
+    size_t count = wanted < *left ? wanted : *left;
+    *left -= count;
+    return count;
+}
+
+static void expect(int is_true, const char *what)
+{
+    if (!is_true) {
+        fprintf(stderr, "fuzz: %s\n", what);
+        abort();
+    }
+}
+
+int LLVMFuzzerTestOneInput(const uint8_t *input, size_t size)
+{
+    static struct guarded buffers[5];
+    if (buffers[0].end == NULL) {
+        for (int i = 0; i < 5; i++) {
+            buffers[i] = guard();
+        }
+    }
+    if (size < HEAD || size > ROOM) {
+        return 0;
+    }
+    size_t left = size - HEAD, counts[4];
+    const uint8_t *from[4], *next = input + HEAD;
+    for (int i = 0; i < 4; i++) {
+        static const int offset[] = {1, 5, 7, 9}, bytes[] = {4, 2, 2, 2};
+        counts[i] = cut(number(input + offset[i], bytes[i]), &left);
+        from[i] = next;
+        next += counts[i];
+    }
+    uint8_t *rack = put(buffers[0], from[0], counts[0]), *event = put(buffers[1], from[1], counts[1]);
+    uint8_t *bridges = put(buffers[2], from[2], counts[2]), *devices = put(buffers[3], from[3], counts[3]);
+    uint64_t *answer = (uint64_t *)(void *)(buffers[4].end - 64), zeros[8] = {0};
+    memset(answer, 0xA5, 64);
+    uint8_t code;
+    switch (input[0] % 4) {
+    case 0:
+        code = rack_run(rack, counts[0], event, counts[1], bridges, counts[2], devices, counts[3], answer);
+        break;
+    case 1:
+        code = rack_check(rack, counts[0], bridges, counts[2], devices, counts[3], answer);
+        break;
+    case 2:
+        memset(answer, 0, 64);
+        code = rack_reset(rack, counts[0], bridges, counts[2], devices, counts[3]);
+        break;
+    default:
+        code = rack_window(rack, counts[0], bridges, counts[2], devices, counts[3], input[11], input[12], answer);
+    }
+    expect(code <= 13, "a number above 13");
+    expect(memcmp(rack, from[0], counts[0]) == 0 && memcmp(event, from[1], counts[1]) == 0, "the rack or the event was written");
+    if (code != 0) {
+        expect(memcmp(answer, zeros, 64) == 0, "a refused answer is not all 0");
+        expect(memcmp(bridges, from[2], counts[2]) == 0 && memcmp(devices, from[3], counts[3]) == 0, "a refusal changed an image");
+    }
+    return 0;
+}
+
+#ifndef __clang__
+/* Calls of a script on standard input, each as it is and then with bytes changed, as often as asked for. */
+static uint64_t random_number(uint64_t *state)
+{
+    *state ^= *state << 13;
+    *state ^= *state >> 7;
+    *state ^= *state << 17;
+    return *state;
+}
+
+int main(int argc, char **argv)
+{
+    static uint8_t call[ROOM], changed[ROOM];
+    uint64_t state = argc > 2 ? strtoull(argv[2], NULL, 10) * 2 + 1 : 1;
+    long rounds = argc > 1 ? atol(argv[1]) : 100, calls = 0;
+    while (fread(call, 1, HEAD, stdin) == HEAD) {
+        size_t rest = number(call + 1, 4) + number(call + 5, 2) + number(call + 7, 2) + number(call + 9, 2), size = HEAD + rest;
+        if (size > ROOM || fread(call + HEAD, 1, rest, stdin) != rest) {
+            return 1;
+        }
+        LLVMFuzzerTestOneInput(call, size);
+        for (long i = 0; i < rounds; i++, calls++) {
+            memcpy(changed, call, size);
+            for (uint64_t k = random_number(&state) % 4 + 1; k > 0; k--) {
+                changed[random_number(&state) % size] = (uint8_t)random_number(&state);
+            }
+            LLVMFuzzerTestOneInput(changed, size - random_number(&state) % 3 % size);
+        }
+    }
+    printf("%ld changed calls of the archive kept their promises\n", calls);
+    return calls > 0 ? 0 : 1;
+}
+#endif
