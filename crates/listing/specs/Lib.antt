@@ -1,3 +1,4 @@
 pub mod Text
+pub mod Words
 pub mod Line
 pub mod Added

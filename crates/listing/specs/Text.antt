@@ -23,7 +23,7 @@ decimalUpTo (suc k) x = cond (ltb x 10) ((48 + x) ∷ []) (decimalUpTo k (x / 10
 unfoldable pub decimalOf : ℕ → List ℕ
 decimalOf x = decimalUpTo x x
 
--- ---- the words of 01, 'The program'
+-- ---- the words of 01, 'The program'; `Words` has them as texts
 abbrev pub dataWord : List ℕ
 dataWord = 100 ∷ 97 ∷ 116 ∷ 97 ∷ []
 
