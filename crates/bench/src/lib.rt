@@ -1,8 +1,11 @@
 // What the benchmarks call, over a table and two images: one memory read, one check. No contract beyond safety; no open call.
+ghost use mathlib.Core.Path.{_≡_};
+ghost use Rattle.rack.specs.Table.{treeOf};
+ghost use Rattle.rack.specs.Refusal.{rackRefusal};
 use claims::Space;
 use overlap::Report;
-use routes::Access;
-use routes::Ending;
+use steps::Access;
+use steps::Ending;
 use window::Range;
 
 fn crossings_of(e: Ending) -> u64 {
@@ -31,16 +34,16 @@ fn crossings_of(e: Ending) -> u64 {
     }
 }
 
-// The crossings of a memory read, plus 1000 times the owner's number plus one where it has an owner.
-#[no_mangle]
-pub extern "C" fn bench_route(
+fn read_once(
     words: &[u64; 192],
     count: u8,
     bridges: &mut [u8],
     devices: &mut [u8],
     initiator: u8,
     address: u64,
-) -> u64 {
+) -> u64
+    requires { ⌜ rackRefusal (treeOf count (now words)) ≡ 0 ⌝ }
+{
     let host = Range { first: 1, last: 0 };
     let space = Space::Memory;
     let x = Access {
@@ -53,6 +56,30 @@ pub extern "C" fn bench_route(
         data: 0,
     };
     crossings_of(routes::route::route_access(words, count, bridges, devices, host, x, initiator))
+}
+
+// A memory read of a rack that is accepted, as often as asked for: its crossings, plus 1000 times the owner's number plus one where it
+// has an owner; all ones where the rack is not accepted.
+#[no_mangle]
+pub extern "C" fn bench_route(
+    words: &[u64; 192],
+    count: u8,
+    bridges: &mut [u8],
+    devices: &mut [u8],
+    initiator: u8,
+    address: u64,
+    rounds: u16,
+) -> u64 {
+    let mut shown: u64 = 0xFFFF_FFFF_FFFF_FFFF;
+    if rack::refusal::refusal_of(words, count) != 0 {
+        return shown;
+    }
+    let mut i: u16 = 0;
+    while i < rounds {
+        shown = read_once(words, count, bridges, devices, initiator, address);
+        i += 1;
+    }
+    shown
 }
 
 // A fault's value plus one, 0 for a pass.

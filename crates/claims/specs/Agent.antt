@@ -1,13 +1,14 @@
 -- An agent of a bus, decoded from its registers: all that its claims rest on.
 -- Assumes nothing: these are definitions.
 use Prim.Native.Nat.{ℕ}
-use mathlib.Core.Bool.{Bool, cond}
+use mathlib.Core.Bool.{cond}
 use mathlib.Core.List.{List}
 use lib.Dec.{eqb}
 use lib.ListN.{getD}
 use Rattle.rack.specs.declared.Node.{Node}
 use Rattle.rack.specs.Node.{isBridge, regionIn}
 use Rattle.rack.specs.Tree.{Tree, host}
+use Rattle.header.specs.Offset.{COMMAND, SECONDARY-BUS, SUBORDINATE-BUS}
 use Rattle.registers.specs.Image.{Images, view}
 use Rattle.window.specs.declared.Range.{Range}
 use Rattle.window.specs.declared.Area.{Area}
@@ -18,16 +19,6 @@ use Rattle.claims.specs.declared.BridgeClaims.{BridgeClaims}
 use Rattle.claims.specs.declared.DeviceClaims.{DeviceClaims}
 use Rattle.claims.specs.declared.Agent.{Agent}
 use Rattle.claims.specs.declared.Agent.the-variants.{Primary, Secondary, Device, Host}
-
--- registers that are read here, by their names in linux/pci_regs.h
-abbrev pub COMMAND : ℕ
-COMMAND = 0x04
-
-abbrev pub SECONDARY-BUS : ℕ
-SECONDARY-BUS = 0x19
-
-abbrev pub SUBORDINATE-BUS : ℕ
-SUBORDINATE-BUS = 0x1a
 
 -- 01: 'command bit 0 (I/O) or 1 (memory)', 'if bit 2 is set', 'secondary ≤ bus ≤ subordinate'
 unfoldable pub bridgeOf : List ℕ → BridgeClaims

@@ -1,7 +1,6 @@
 // An agent of a bus from its registers.
 ghost use mathlib.Core.Path.{_≡_};
-ghost use Prim.Native.Nat.{ℕ, _<_};
-ghost use lib.ListN.{getD};
+ghost use Prim.Native.Nat.{_<_};
 ghost use Rattle.rack.specs.Table.{treeOf};
 ghost use Rattle.registers.specs.Image.{images};
 ghost use Rattle.window.specs.Range.{range};
@@ -9,18 +8,15 @@ ghost use Rattle.claims.specs.Agent.{bridgeOf, areaIn, deviceOf, agentOf
 use crate::Agent;
 use crate::BridgeClaims;
 use crate::DeviceClaims;
+use header::offset::COMMAND;
+use header::offset::SECONDARY_BUS;
+use header::offset::SUBORDINATE_BUS;
 use header::register::byte_at;
 use rack::Node;
 use rack::table::node_at;
 use registers::image::view_of;
 use window::Area;
 use window::Range;
-
-const COMMAND: usize = 0x04;
-
-const SECONDARY_BUS: usize = 0x19;
-
-const SUBORDINATE_BUS: usize = 0x1a;
 
 fn bus_range(secondary: u8, subordinate: u8) -> Range
     ensures { λ r. ⌜ r ≡ range secondary subordinate ⌝ }

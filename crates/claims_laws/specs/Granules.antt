@@ -8,8 +8,8 @@ use native.Mathlib.Nat.{suc-mul, le-div-iff-mul-le, div-lt-iff-lt-mul}
 use native.Mathlib.Omega.{arith}
 use lib.Dec.{leb}
 use lib.Pow.{pow-pos}
+use Rattle.header.specs.Offset.{IO-BASE, IO-LIMIT, MEMORY-BASE, MEMORY-LIMIT, PREF-MEMORY-BASE, PREF-MEMORY-LIMIT, PREF-BASE-UPPER32, PREF-LIMIT-UPPER32, IO-BASE-UPPER16, IO-LIMIT-UPPER16}
 use Rattle.window.specs.Range.{within, window}
-use Rattle.window.specs.Offset.{IO-BASE, IO-LIMIT, MEMORY-BASE, MEMORY-LIMIT, PREF-MEMORY-BASE, PREF-MEMORY-LIMIT, PREF-BASE-UPPER32, PREF-LIMIT-UPPER32, IO-BASE-UPPER16, IO-LIMIT-UPPER16}
 use Rattle.window.specs.Window.{memoryGranule, prefetchableGranule, ioGranule, windowsOf}
 use Rattle.window.specs.Inside.{inMemory, inPrefetchable, isaCut, inIo, inVgaMemory, inVgaIo, insideMemory, insideIo}
 use Rattle.claims_laws.specs.Kept.{leb-by}

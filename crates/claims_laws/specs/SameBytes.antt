@@ -18,16 +18,16 @@ use Rattle.rack.specs.Bools.{tested}
 use Rattle.header.specs.declared.Side.{Side}
 use Rattle.header.specs.declared.StatusBit.{StatusBit}
 use Rattle.header.specs.declared.StatusBit.the-variants.{SignaledTargetAbort, ReceivedTargetAbort, ReceivedMasterAbort}
+use Rattle.header.specs.Offset.{COMMAND, SECONDARY-BUS, SUBORDINATE-BUS, IO-BASE, IO-LIMIT, MEMORY-BASE, MEMORY-LIMIT, PREF-MEMORY-BASE, PREF-MEMORY-LIMIT, PREF-BASE-UPPER32, PREF-LIMIT-UPPER32, IO-BASE-UPPER16, IO-LIMIT-UPPER16, BRIDGE-CONTROL}
 use Rattle.header.specs.Every.{every, at, past}
 use Rattle.header.specs.Tables.{clearTable}
 use Rattle.header.specs.Mask.{clearMask}
 use Rattle.header.specs.Sizing.{regionRegister}
 use Rattle.header.specs.Register.{dwordAt, setStatus, statusAt, statusMask}
 use Rattle.registers_laws.specs.Status.{status-only}
-use Rattle.window.specs.Offset.{IO-BASE, IO-LIMIT, MEMORY-BASE, MEMORY-LIMIT, PREF-MEMORY-BASE, PREF-MEMORY-LIMIT, PREF-BASE-UPPER32, PREF-LIMIT-UPPER32, IO-BASE-UPPER16, IO-LIMIT-UPPER16, BRIDGE-CONTROL}
 use Rattle.window.specs.Window.{wordAt, windowsOf}
 use Rattle.window.specs.Area.{areaOf}
-use Rattle.claims.specs.Agent.{COMMAND, SECONDARY-BUS, SUBORDINATE-BUS, areaIn, bridgeOf, deviceOf}
+use Rattle.claims.specs.Agent.{areaIn, bridgeOf, deviceOf}
 
 -- the bytes that hold status bits
 abbrev pub statusByte : Kind → ℕ → Bool

@@ -10,9 +10,9 @@ use lib.Dec.{leb, ltb}
 use lib.Pow.{pow-pos}
 use borrow.Author.Tests.{le-leb, lt-leb, lt-ltb, le-ltb, leb-true, leb-false, ltb-true, ltb-false}
 use Rattle.rack.specs.Bools.{tested, both}
+use Rattle.header.specs.Offset.{IO-BASE, IO-LIMIT, IO-BASE-UPPER16, IO-LIMIT-UPPER16}
 use Rattle.window.specs.declared.Range.{Range}
 use Rattle.window.specs.Range.{within, window}
-use Rattle.window.specs.Offset.{IO-BASE, IO-LIMIT, IO-BASE-UPPER16, IO-LIMIT-UPPER16}
 use Rattle.window.specs.Window.{ioGranule, windowsOf}
 use Rattle.window.specs.Inside.{inIo}
 use Rattle.claims.specs.declared.Ends.the-variants.{Empty, FirstLast}

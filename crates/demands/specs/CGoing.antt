@@ -11,9 +11,9 @@ use Rattle.rack.specs.Bools.{tested}
 use Rattle.rack.specs.Tree.{depth, greatestDepth}
 use Rattle.registers.specs.Image.{Images}
 use Rattle.claims_laws.specs.Apart.{SameButStatus}
-use Rattle.routes.specs.declared.Ending.{Ending}
-use Rattle.routes.specs.declared.Ending.the-variants.{Data, Stored, Owner, Host, Unclaimed, Clash, Silent}
-use Rattle.routes.specs.Ending.{crossingsOf}
+use Rattle.steps.specs.declared.Ending.{Ending}
+use Rattle.steps.specs.declared.Ending.the-variants.{Data, Stored, Owner, Host, Unclaimed, Clash, Silent}
+use Rattle.steps.specs.Ending.{crossingsOf}
 use Rattle.overlap.specs.declared.Report.the-variants.{Pass, Fault}
 use Rattle.rackfile.specs.Number.{byteIn, dwordIn, qwordIn}
 use Rattle.rackfile.specs.Events.{eventIn, eventBytes, eventWrong}

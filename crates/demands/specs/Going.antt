@@ -14,7 +14,7 @@ use Rattle.registers.specs.Image.{Images}
 use Rattle.window.specs.declared.Range.{Range}
 use Rattle.claims.specs.declared.Space.the-variants as space
 use Rattle.claims_laws.specs.Apart.{SameButStatus}
-use Rattle.routes.specs.Ending.{Out, crossingsOf}
+use Rattle.steps.specs.Ending.{Out, crossingsOf}
 use Rattle.routes.specs.Route.{configure, access}
 use Rattle.overlap.specs.declared.Report.the-variants.{Pass}
 use Rattle.overlap.specs.Check.{check}

@@ -15,6 +15,7 @@ use Rattle.rack.specs.Bools.{tested}
 use Rattle.rack.specs.Tree.{Tree, host, parentOf, depth, greatestDepth}
 use Rattle.rack.specs.Placed.{Placed}
 use Rattle.rack.specs.Refusal.{rackRefusal}
+use Rattle.header.specs.Offset.{COMMAND}
 use Rattle.rack_laws.specs.Sound.{nodes-le, not-host}
 use Rattle.registers.specs.Image.{Images, view}
 use Rattle.registers.specs.Fixed.{lengthsWrong}
@@ -22,14 +23,13 @@ use Rattle.window.specs.declared.Range.{Range}
 use Rattle.window.specs.Window.{bitAt}
 use Rattle.claims.specs.declared.Space.{Space}
 use Rattle.claims.specs.declared.Space.the-variants.{Memory, Io, Configuration}
-use Rattle.claims.specs.Agent.{COMMAND}
 use Rattle.claims.specs.Claimants.{claimants}
 use Rattle.claims_laws.specs.Apart.{SameButStatus, same-refl, same-trans, same-right, claimants-same}
-use Rattle.routes.specs.declared.Access.{Access}
-use Rattle.routes.specs.declared.Ending.{Ending}
-use Rattle.routes.specs.declared.Ending.the-variants.{Silent}
-use Rattle.routes.specs.Ending.{crossingsOf, endingNumber}
-use Rattle.routes.specs.Cross.{otherBus, isConfiguration}
+use Rattle.steps.specs.declared.Access.{Access}
+use Rattle.steps.specs.declared.Ending.{Ending}
+use Rattle.steps.specs.declared.Ending.the-variants.{Silent}
+use Rattle.steps.specs.Ending.{crossingsOf, endingNumber}
+use Rattle.steps.specs.Cross.{otherBus, isConfiguration}
 use Rattle.routes.specs.Route.{from, configure, access}
 use Rattle.routes_laws.specs.Takers.{OnBus, Taken}
 use Rattle.routes_laws.specs.Possible.{IsBus, parent-bus, crossings-le, configure-le}

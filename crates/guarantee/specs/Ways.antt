@@ -26,16 +26,16 @@ use Rattle.claims.specs.Claim.{inRegions, deviceClaims, claimsOf, claims}
 use Rattle.claims.specs.Claimants.{claimantsIn, claimants, firstTwo, nextFrom}
 use Rattle.claims.specs.ClaimantLaws.{next-below}
 use Rattle.claims_laws.specs.Reach.{areaAt, Reach, reach}
-use Rattle.routes.specs.declared.Access.{Access}
-use Rattle.routes.specs.declared.Outcome.{Outcome}
-use Rattle.routes.specs.declared.Outcome.the-variants.{Abort, Done, Target}
-use Rattle.routes.specs.declared.Ending.{Ending}
-use Rattle.routes.specs.declared.Ending.the-variants.{Data, Stored, Owner, Host, Unclaimed, Clash, Silent}
-use Rattle.routes.specs.declared.Sight.{Sight}
-use Rattle.routes.specs.declared.Sight.the-variants.{Ends, Crosses}
-use Rattle.routes.specs.Ending.{Out, crossingsOf, endingNumber}
-use Rattle.routes.specs.Look.{isIo, unclaimed, owned, claimed, served, direct, target, look}
-use Rattle.routes.specs.Cross.{otherBus, turnsType0, passed, crossed}
+use Rattle.steps.specs.declared.Access.{Access}
+use Rattle.steps.specs.declared.Outcome.{Outcome}
+use Rattle.steps.specs.declared.Outcome.the-variants.{Abort, Done, Target}
+use Rattle.steps.specs.declared.Ending.{Ending}
+use Rattle.steps.specs.declared.Ending.the-variants.{Data, Stored, Owner, Host, Unclaimed, Clash, Silent}
+use Rattle.steps.specs.declared.Sight.{Sight}
+use Rattle.steps.specs.declared.Sight.the-variants.{Ends, Crosses}
+use Rattle.steps.specs.Ending.{Out, crossingsOf, endingNumber}
+use Rattle.steps.specs.Look.{isIo, unclaimed, owned, claimed, served, direct, target, look}
+use Rattle.steps.specs.Cross.{otherBus, turnsType0, passed, crossed}
 use Rattle.routes.specs.Route.{follow, busStep, bridgeStep, possible, from, returned, started}
 use Rattle.routes_laws.specs.Takers.{Taken, Follows, look-follows}
 use Rattle.routes_laws.specs.Possible.{IsBus, Enough, onward}

@@ -12,6 +12,7 @@ use lib.ListN.{length, getD, set}
 use lib.Seq.{getD-set-same, getD-set-other, set-getD, set-set, set-comm, set-out}
 use Rattle.rack.specs.declared.Node.{Node}
 use Rattle.rack.specs.Node.{isBridge}
+use Rattle.header.specs.Offset.{BASE-ADDRESS}
 use Rattle.header.specs.Byte.{restored}
 use Rattle.header.specs.Mask.{writeMask, clearMask}
 use Rattle.header.specs.Disjoint.{write-lt, region-clear}
@@ -36,14 +37,14 @@ swap n i j h l v w =
 
 module _ (n : Node) (device : isBridge (n .kind) ≡ false) (l : List ℕ) (byte : (i : ℕ) → getD l i 0 < 256) where
   -- no bit of a region is cleared by writing 1, so a byte written there and then written back is as it was
-  back : (i v : ℕ) → 16 ≤ i → i < 40 → v < 256 → writeByte n (writeByte n l i true v) i true (getD l i 0) ≡ l
+  back : (i v : ℕ) → BASE-ADDRESS ≤ i → i < BASE-ADDRESS + 24 → v < 256 → writeByte n (writeByte n l i true v) i true (getD l i 0) ≡ l
   unfolding writeByte
   back i v low high hv =
-      let none : clearMask n i ≡ 0 = region-clear n i (rw (device, le-leb 16 i low, lt-ltb i 40 high)) in
+      let none : clearMask n i ≡ 0 = region-clear n i (rw (device, le-leb BASE-ADDRESS i low, lt-ltb i (BASE-ADDRESS + 24) high)) in
       set-back l i _ _ (λ h. rw (getD-set-same l i _ 0 h, none) (restored (getD l i 0) v (writeMask n i) (byte i) hv (write-lt n i)))
 
   -- so the four writes of a register there are undone by four more, each moved to the one that it undoes
-  pub written-back : (at : ℕ) → 16 ≤ at → at + 3 < 40 → writtenBack n l at ≡ l
+  pub written-back : (at : ℕ) → BASE-ADDRESS ≤ at → at + 3 < BASE-ADDRESS + 24 → writtenBack n l at ≡ l
   unfolding writtenBack writeRegister readRegister writeDword
   written-back at low high =
       let inside : at < 64 = omega arith in

@@ -2,7 +2,7 @@
 -- Assumes nothing.
 use mathlib.Core.Path.{_≡_, refl, sym, ap, _∙_}
 use mathlib.Core.Bool.{Bool, true, false, not, _&&_, cond, and-eq-true-iff}
-use Prim.Native.Nat.{ℕ, _<_, _≤_, min}
+use Prim.Native.Nat.{ℕ, _+_, _<_, _≤_, min}
 use native.Mathlib.Nat.{mod-lt}
 use borrow.Author.Tests.{ltb-true, ltb-false, eqb-true}
 use lib.Bits.{bitAnd, bitOr, and-zero-r}
@@ -13,8 +13,9 @@ use Rattle.rack.specs.declared.Kind.the-variants.{Bridge, Device}
 use Rattle.rack.specs.declared.Node.{Node}
 use Rattle.rack.specs.Node.{isBridge}
 use Rattle.header.specs.Bits.{bit, bit-and, bit-of-zero}
+use Rattle.header.specs.Offset.{BASE-ADDRESS}
 use Rattle.header.specs.Tables.{writeTable, clearTable, resetTable}
-use Rattle.header.specs.Mask.{inRegion, regionWrite, regionReset, writeMask, clearMask, resetByte}
+use Rattle.header.specs.Mask.{regionByte, inRegion, regionWrite, regionReset, writeMask, clearMask, resetByte}
 use Rattle.header.specs.Every.{every, at, past}
 
 -- an entry's two masks and its reset value are bytes of which no two have a common bit; in a device's regions no bit is cleared
@@ -47,10 +48,6 @@ sound region write clear reset e =
       fixed = eqb-true _ _ (e5 .0);
       plain = λ r. eqb-true clear 0 (sym (ap (λ (b : Bool). cond b (eqb clear 0) true) r) ∙ e5 .1);
     }
-
--- the bytes of a device's regions
-abbrev pub regionByte : Kind → ℕ → Bool
-regionByte kind at = not (isBridge kind) && (leb 16 at && ltb at 40)
 
 abbrev test : Kind → ℕ → ℕ → Bool
 test kind at write = soundEntry (regionByte kind at) write (getD (clearTable kind) at 0) (getD (resetTable kind) at 0)
@@ -119,8 +116,8 @@ module _ (n : Node) (at : ℕ) where
   region-clear = entry (n .kind) at .plain
 
   -- the regions end below 28h
-  pub region-below : inRegion n at ≡ true → at < 40
-  region-below e = ltb-true at 40 (and-eq-true-iff (leb 16 at) _ .0 (and-eq-true-iff (not (isBridge (n .kind))) _ .0 e .1) .1)
+  pub region-below : inRegion n at ≡ true → at < BASE-ADDRESS + 24
+  region-below e = ltb-true at (BASE-ADDRESS + 24) (and-eq-true-iff (leb BASE-ADDRESS at) _ .0 (and-eq-true-iff (not (isBridge (n .kind))) _ .0 e .1) .1)
 
   -- no bit is both written and cleared
   pub disjoint : bitAnd (writeMask n at) (clearMask n at) ≡ 0

@@ -1,21 +1,27 @@
 -- The masks and the reset value of each register byte of a node: its header's tables, with a device's regions over them.
 -- Assumes nothing: these are definitions.
 use Prim.Native.Nat.{ℕ, _+_, _-_, _*_, _/_, _%_, _^_}
-use mathlib.Core.Bool.{Bool, true, false, not, _&&_, cond}
+use mathlib.Core.Bool.{Bool, not, _&&_, cond}
 use lib.Bits.{bitOr}
 use lib.Dec.{leb, ltb, eqb}
 use lib.ListN.{getD}
+use Rattle.rack.specs.declared.Kind.{Kind}
 use Rattle.rack.specs.declared.Region.{Region}
 use Rattle.rack.specs.declared.Node.{Node}
 use Rattle.rack.specs.Node.{isBridge, regionIn}
+use Rattle.header.specs.Offset.{BASE-ADDRESS}
 use Rattle.header.specs.Tables.{writeTable, clearTable, resetTable}
 
--- 01: 'region r (0 to 2) of kind 1 to 3 at 10h + 8r': whether a byte is one of a device's regions, and of which
+-- 01: 'region r (0 to 2) of kind 1 to 3 at 10h + 8r': whether a byte is one of a device's regions,
+-- three of eight bytes, and of which
+abbrev pub regionByte : Kind → ℕ → Bool
+regionByte kind at = not (isBridge kind) && (leb BASE-ADDRESS at && ltb at (BASE-ADDRESS + 24))
+
 abbrev pub inRegion : Node → ℕ → Bool
-inRegion n at = not (isBridge (n .kind)) && (leb 16 at && ltb at 40)
+inRegion n at = regionByte (n .kind) at
 
 abbrev pub regionAt : Node → ℕ → Region
-regionAt n at = regionIn n (at / 8 - 2)
+regionAt n at = regionIn n ((at - BASE-ADDRESS) / 8)
 
 -- byte k of a number, lowest first
 abbrev pub byteOf : ℕ → ℕ → ℕ

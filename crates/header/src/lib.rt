@@ -1,5 +1,7 @@
 // The registers of one node: header tables, the byte law, register reads and writes, status bits, sizing.
+pub mod bridge_tables;
 pub mod byte;
+pub mod device_tables;
 pub mod mask;
 pub mod offset;
 pub mod register;

@@ -1,7 +1,9 @@
 // The masks and the reset value of each register byte of a node.
 ghost use mathlib.Core.Path.{_≡_};
-ghost use Prim.Native.Nat.{ℕ, _-_, _^_, _%_, _<_};
+ghost use Prim.Native.Nat.{_+_, _-_, _^_, _%_, _<_};
+ghost use Rattle.header.specs.Offset.{BASE-ADDRESS};
 ghost use Rattle.header.specs.Mask.{byteOf, inRegion, regionAt, regionWrite, regionReset, writeMask, clearMask, fixedMask, ids, resetByte};
+use crate::offset::BASE_ADDRESS;
 use rack::Node;
 use rack::Region;
 
@@ -51,24 +53,25 @@ fn region_reset(kind: u8, k: usize) -> u8
     0
 }
 
-// Whether a byte is one of a device's regions.
+// Whether a byte is one of a device's regions, three of eight bytes.
 fn in_region(n: Node, at: usize) -> bool
     ensures { λ r. ⌜ r ≡ inRegion n at ⌝ }
 {
     let kind = n.kind;
-    !rack::is_bridge(kind) & ((16 <= at) & (at < 40))
+    let first = BASE_ADDRESS as usize;
+    !rack::is_bridge(kind) & ((first <= at) & (at < first + 24))
 }
 
 // The region that a byte belongs to.
 fn region_at(n: Node, at: usize) -> Region
-    requires { ⌜ at < 40 ⌝ }
+    requires { ⌜ at < BASE-ADDRESS + 24 ⌝ }
     ensures { λ r. ⌜ r ≡ regionAt n at ⌝ }
 {
-    let i = at / 8;
-    if i < 2 {
+    let first = BASE_ADDRESS as usize;
+    if at < first {
         return n.regions[0];
     }
-    n.regions[i - 2]
+    n.regions[(at - first) / 8]
 }
 
 pub fn write_mask(n: Node, at: usize) -> u8

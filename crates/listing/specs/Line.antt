@@ -5,10 +5,10 @@ use mathlib.Core.List.{List, [], _∷_, _++_}
 use lib.ListN.{take}
 use Rattle.claims.specs.declared.Space.{Space}
 use Rattle.claims.specs.declared.Space.the-variants.{Memory, Io, Configuration}
-use Rattle.routes.specs.declared.Outcome.{Outcome}
-use Rattle.routes.specs.declared.Outcome.the-variants.{Abort, Done, Target}
-use Rattle.routes.specs.declared.Ending.{Ending}
-use Rattle.routes.specs.declared.Ending.the-variants.{Data, Stored, Owner, Host, Unclaimed, Clash, Silent}
+use Rattle.steps.specs.declared.Outcome.{Outcome}
+use Rattle.steps.specs.declared.Outcome.the-variants.{Abort, Done, Target}
+use Rattle.steps.specs.declared.Ending.{Ending}
+use Rattle.steps.specs.declared.Ending.the-variants.{Data, Stored, Owner, Host, Unclaimed, Clash, Silent}
 use Rattle.overlap.specs.declared.Report.{Report}
 use Rattle.overlap.specs.declared.Report.the-variants.{Pass, Fault}
 use Rattle.listing.specs.declared.Line.{Line}

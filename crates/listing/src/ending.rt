@@ -6,8 +6,8 @@ ghost use Rattle.listing.specs.Line.{textOf, outcomeWord, endingLine};
 ghost use Rattle.listing.specs.Added.{Added};
 use crate::Line;
 use crate::field::begun;
-use routes::Ending;
-use routes::Outcome;
+use steps::Ending;
+use steps::Outcome;
 
 fn data_line(n: u32, crossings: u32, value: u32) -> Line
     ensures { λ r. ⌜ (textOf r ≡ endingLine n (Ending.Data crossings value)) × (r .len ≤ 96) ⌝ }

@@ -8,7 +8,7 @@ use lib.ListN.{take}
 use Rattle.registers.specs.Image.{Images, images}
 use Rattle.registers.specs.Fixed.{lengthsWrong}
 use Rattle.registers.specs.Reset.{resetImages}
-use Rattle.routes.specs.Ending.{endingNumber, endingValues}
+use Rattle.steps.specs.Ending.{endingNumber, endingValues}
 use Rattle.overlap.specs.Report.{reportNumber, reportValues}
 use Rattle.rackfile.specs.Events.{eventIn, eventBytes}
 use Rattle.rackfile.specs.Load.{rackAlone, hostOf}

@@ -1,16 +1,16 @@
 // An answer as eight numbers: its own, its values, and zeros behind them.
 ghost use mathlib.Core.Path.{_≡_};
 ghost use mathlib.Core.List.{[], _∷_};
-ghost use Rattle.routes.specs.Ending.{outcomeNumber, endingNumber, endingValues};
+ghost use Rattle.steps.specs.Ending.{outcomeNumber, endingNumber, endingValues};
 ghost use Rattle.overlap.specs.Report.{reportNumber, reportValues};
 ghost use Rattle.muzgante.specs.Called.{eight, zeros, codeOf, numbersOf, endsCode, endsNumbers};
 ghost use Rattle.claims.specs.Space.{spaceNumber};
 use calls::Bounds;
 use claims::Space;
 use overlap::Report;
-use routes::Ending;
-use routes::Outcome;
 use simulator::Answer;
+use steps::Ending;
+use steps::Outcome;
 
 fn put_eight(answer: &mut [u64; 8], number: u64, a: u64, b: u64, c: u64, d: u64, e: u64, f: u64)
     ensures { λ _. ⌜ now (answer .exit) ≡ number ∷ a ∷ b ∷ c ∷ d ∷ e ∷ f ∷ 0 ∷ [] ⌝ }

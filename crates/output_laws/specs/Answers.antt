@@ -8,7 +8,7 @@ use Rattle.registers.specs.Image.{Images}
 use Rattle.window.specs.declared.Range.{Range}
 use Rattle.rackfile.specs.declared.Event.{Event}
 use Rattle.rackfile.specs.declared.Event.the-variants.{Write, Read, Memory, Io, Check}
-use Rattle.routes.specs.declared.Ending.{Ending}
+use Rattle.steps.specs.declared.Ending.{Ending}
 use Rattle.overlap.specs.declared.Report.{Report}
 use Rattle.simulator.specs.declared.Answer.the-variants.{Refused, Ended, Checked}
 use Rattle.simulator.specs.Run.{eventRun}

@@ -5,7 +5,6 @@ pub mod CountLaws
 pub mod Search
 pub mod Tree
 pub mod TreeLaws
-pub mod DepthLaws
 pub mod Placed
 pub mod Refusal
 pub mod RefusalLaws

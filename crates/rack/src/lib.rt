@@ -2,7 +2,6 @@
 ghost use mathlib.Core.Path.{_≡_};
 ghost use Rattle.rack.specs.Node.{kindNumber, isBridge};
 
-pub mod depth;
 pub mod grow;
 pub mod refusal;
 pub mod table;

@@ -4,6 +4,7 @@ ghost use mathlib.Core.Path.{_≡_};
 ghost use Prim.Native.Nat.{ℕ, _+_, _/_, _%_, _<_};
 ghost use mathlib.Core.Bool.{cond};
 ghost use Rattle.rack.specs.Tree.{tree, bridgesBelow};
+ghost use Rattle.rack.specs.Node.{isBridge};
 ghost use Rattle.rack.specs.Table.{Bytes, Low, High, kindFrom, nodeFrom, nodeAt, placeAt, treeOf};
 use crate::Kind;
 use crate::Node;
@@ -122,6 +123,17 @@ pub fn parent_at(words: &[u64; 192], i: u8) -> u8
     } else {
         0
     }
+}
+
+// Whether a node is a bridge, from one word too.
+pub fn is_bridge_at(words: &[u64; 192], i: u8) -> bool
+    ensures { λ r. ⌜ r ≡ isBridge (nodeAt (now (words .entry)) i .kind) ⌝ }
+{
+    let at = i as usize;
+    if at < 96 {
+        return words[2 * at] % 256 == 2;
+    }
+    false
 }
 
 pub fn place_at(words: &[u64; 192], i: usize) -> u8

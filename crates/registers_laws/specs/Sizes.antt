@@ -4,7 +4,7 @@ use mathlib.Core.Path.{_≡_, refl, _∙_}
 use mathlib.Core.Bool.{Bool, true, false, _&&_, _||_, cond}
 use mathlib.Core.Logic.{_⊎_, inl, inr, ⊎-elim}
 use mathlib.Core.List.{List}
-use Prim.Native.Nat.{ℕ, zero, suc, _+_, _-_, _*_, _/_, _%_, _^_, _≤_, _<_}
+use Prim.Native.Nat.{ℕ, zero, suc, _+_, _-_, _/_, _%_, _^_, _≤_, _<_}
 use native.Mathlib.Omega.{arith}
 use lib.Bits.{bitAnd, bitOr, and-zero-r}
 use lib.Dec.{eqb, leb, lit<}
@@ -20,6 +20,7 @@ use Rattle.rack.specs.Refusal.{regionRange, regionsRange, badRegion, rackRefusa
 use Rattle.rack_laws.specs.Sound.{in-range}
 use Rattle.rack_laws.specs.Places.{accepted-placed}
 use Rattle.rack.specs.Placed.{Placed}
+use Rattle.header.specs.Offset.{BASE-ADDRESS}
 use Rattle.header.specs.Byte.{writtenByte}
 use Rattle.header.specs.Mask.{inRegion, byteOf, regionWrite, regionReset, writeMask, clearMask, fixedMask, resetByte}
 use Rattle.header.specs.Disjoint.{region-clear as no-clear}
@@ -52,21 +53,21 @@ module _ (n : Node) (r : ℕ) (device : isBridge (n .kind) ≡ false) (hr : r < 
   region = regionIn n r
 
   -- the masks and the reset value of byte b of region r
-  module _ (at b : ℕ) (place : at ≡ 16 + 8 * r + b) (hb : b < 8) where
+  module _ (at b : ℕ) (place : at ≡ regionRegister r + b) (hb : b < 8) where
     inside : inRegion n at ≡ true
-    inside = rw (device, le-leb 16 at (omega arith), lt-ltb at 40 (omega arith))
+    inside = rw (device, le-leb BASE-ADDRESS at (omega arith), lt-ltb at (BASE-ADDRESS + 24) (omega arith))
 
     region-write : writeMask n at ≡ regionWrite (region .kind) (region .exponent) b
     unfolding writeMask region
     region-write =
-        let e : at / 8 - 2 ≡ r = omega arith in
+        let e : (at - BASE-ADDRESS) / 8 ≡ r = omega arith in
         let m : at % 8 ≡ b = omega arith in
         rw (inside, e, m)
 
     region-reset : resetByte n at ≡ regionReset (region .kind) b
     unfolding resetByte region
     region-reset =
-        let e : at / 8 - 2 ≡ r = omega arith in
+        let e : (at - BASE-ADDRESS) / 8 ≡ r = omega arith in
         let m : at % 8 ≡ b = omega arith in
         rw (le-ltb at 4 (omega arith), inside, e, m)
 
@@ -85,7 +86,7 @@ module _ (n : Node) (r : ℕ) (device : isBridge (n .kind) ≡ false) (hr : r < 
 
   module _ (part : List ℕ) (long : length part ≡ 64) (right : (at : ℕ) → at < 64 → byteWrong n part at ≡ false) where
     -- the dword at byte b of the region, read back
-    read-back : (at b : ℕ) → at ≡ 16 + 8 * r + b → b ≤ 4 → readBack n part at ≡ onesDword (region .kind) (region .exponent) b
+    read-back : (at b : ℕ) → at ≡ regionRegister r + b → b ≤ 4 → readBack n part at ≡ onesDword (region .kind) (region .exponent) b
     unfolding readBack readRegister onesDword
     read-back at b place hb =
         let a0 : at + 0 ≡ at = omega arith in
@@ -107,7 +108,7 @@ module _ (n : Node) (r : ℕ) (device : isBridge (n .kind) ≡ false) (hr : r < 
         → sizePart n part (regionIn n r .kind) (regionRegister r) ≡ 2 ^ (regionIn n r .exponent)
     unfolding sizePart region onesSize
     size-part range =
-        rw (read-back (16 + 8 * r) 0 (omega arith) (omega arith), read-back (16 + 8 * r + 4) 4 (omega arith) (omega arith))
+        rw (read-back (regionRegister r) 0 (omega arith) (omega arith), read-back (regionRegister r + 4) 4 (omega arith) (omega arith))
         (ones-size region range)
 
 module _ (t : Tree) (im : Images) (i r : ℕ) where

@@ -6,14 +6,14 @@ use Prim.Native.Nat.{ℕ, _+_, _-_}
 use Rattle.rack.specs.Tree.{Tree, parentOf}
 use Rattle.registers.specs.Image.{Images}
 use Rattle.window.specs.declared.Range.{Range}
-use Rattle.routes.specs.declared.Access.{Access}
-use Rattle.routes.specs.declared.Ending.{Ending}
-use Rattle.routes.specs.declared.Ending.the-variants.{Silent}
-use Rattle.routes.specs.declared.Sight.{Sight}
-use Rattle.routes.specs.declared.Sight.the-variants.{Ends, Crosses}
-use Rattle.routes.specs.Ending.{Out, Seen}
-use Rattle.routes.specs.Look.{look}
-use Rattle.routes.specs.Cross.{otherBus, turnsType0, crossed}
+use Rattle.steps.specs.declared.Access.{Access}
+use Rattle.steps.specs.declared.Ending.{Ending}
+use Rattle.steps.specs.declared.Ending.the-variants.{Silent}
+use Rattle.steps.specs.declared.Sight.{Sight}
+use Rattle.steps.specs.declared.Sight.the-variants.{Ends, Crosses}
+use Rattle.steps.specs.Ending.{Out, Seen}
+use Rattle.steps.specs.Look.{look}
+use Rattle.steps.specs.Cross.{otherBus, turnsType0, crossed}
 use Rattle.routes.specs.Route.{busStep, bridgeStep, from, returned, driven}
 use Rattle.routes.specs.StepLaws.{bus-ends-left, bus-on, bus-spent, bridge-on}
 

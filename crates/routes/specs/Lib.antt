@@ -1,5 +1,2 @@
-pub mod Ending
-pub mod Look
-pub mod Cross
 pub mod Route
 pub mod StepLaws

@@ -1,25 +1,25 @@
 -- 01: 'What a bus does with an access and what a bridge does with it are each defined through the other.'
 -- Assumes nothing: these are definitions.
 use Prim.Native.Nat.{ℕ, zero, suc, _+_}
-use mathlib.Core.Bool.{Bool, true, false, cond}
+use mathlib.Core.Bool.{Bool, false, cond}
 use lib.Dec.{eqb}
 use Rattle.rack.specs.Tree.{Tree, host, parentOf, depth, greatestDepth}
 use Rattle.header.specs.declared.Side.the-variants.{Primary}
 use Rattle.header.specs.declared.StatusBit.the-variants.{ReceivedTargetAbort}
+use Rattle.header.specs.Offset.{COMMAND}
 use Rattle.registers.specs.Image.{Images, view, statusNode}
 use Rattle.window.specs.declared.Range.{Range}
 use Rattle.window.specs.Window.{bitAt}
-use Rattle.claims.specs.Agent.{COMMAND}
-use Rattle.routes.specs.declared.Access.{Access}
-use Rattle.routes.specs.declared.Outcome.{Outcome}
-use Rattle.routes.specs.declared.Outcome.the-variants.{Abort, Done, Target}
-use Rattle.routes.specs.declared.Ending.{Ending}
-use Rattle.routes.specs.declared.Ending.the-variants.{Data, Stored, Owner, Host, Unclaimed, Clash, Silent}
-use Rattle.routes.specs.declared.Sight.{Sight}
-use Rattle.routes.specs.declared.Sight.the-variants.{Ends, Crosses}
-use Rattle.routes.specs.Ending.{Out, Seen}
-use Rattle.routes.specs.Look.{look}
-use Rattle.routes.specs.Cross.{otherBus, turnsType0, crossed}
+use Rattle.steps.specs.declared.Access.{Access}
+use Rattle.steps.specs.declared.Outcome.{Outcome}
+use Rattle.steps.specs.declared.Outcome.the-variants.{Abort, Done, Target}
+use Rattle.steps.specs.declared.Ending.{Ending}
+use Rattle.steps.specs.declared.Ending.the-variants.{Data, Stored, Owner, Host, Unclaimed, Clash, Silent}
+use Rattle.steps.specs.declared.Sight.{Sight}
+use Rattle.steps.specs.declared.Sight.the-variants.{Ends, Crosses}
+use Rattle.steps.specs.Ending.{Out}
+use Rattle.steps.specs.Look.{look}
+use Rattle.steps.specs.Cross.{otherBus, turnsType0, crossed}
 
 -- the answer that was seen, or that of the bridge
 abbrev pub follow : (ℕ → Images → Out) → Sight → Images → Out

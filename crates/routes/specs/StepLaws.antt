@@ -1,7 +1,7 @@
 -- The steps of a route as the code takes them, and that its crossings are at most the number it was given.
 -- Assumes nothing.
-use mathlib.Core.Path.{_≡_, refl, sym, ap, _∙_}
-use mathlib.Core.Bool.{Bool, true, false, cond}
+use mathlib.Core.Path.{_≡_, refl}
+use mathlib.Core.Bool.{Bool, true, false}
 use Prim.Native.Nat.{ℕ, zero, suc, _+_, _-_, _≤_}
 use native.Mathlib.Nat.{le-refl}
 use native.Mathlib.Omega.{arith}
@@ -13,16 +13,15 @@ use Rattle.registers.specs.Image.{Images}
 use Rattle.window.specs.declared.Range.{Range}
 use Rattle.claims.specs.declared.Claimants.{Claimants}
 use Rattle.claims.specs.declared.Claimants.the-variants.{Nobody, One, Two}
-use Rattle.routes.specs.declared.Access.{Access}
-use Rattle.routes.specs.declared.Outcome.{Outcome}
-use Rattle.routes.specs.declared.Outcome.the-variants.{Abort, Done, Target}
-use Rattle.routes.specs.declared.Ending.{Ending}
-use Rattle.routes.specs.declared.Ending.the-variants.{Data, Stored, Owner, Host, Unclaimed, Clash, Silent}
-use Rattle.routes.specs.declared.Sight.{Sight}
-use Rattle.routes.specs.declared.Sight.the-variants.{Ends, Crosses}
-use Rattle.routes.specs.Ending.{Out, Seen, crossingsOf}
-use Rattle.routes.specs.Look.{unclaimed, owned, claimed, served, direct, target, look}
-use Rattle.routes.specs.Cross.{otherBus, turnsType0, passed, crossed}
+use Rattle.steps.specs.declared.Access.{Access}
+use Rattle.steps.specs.declared.Outcome.the-variants.{Abort, Done, Target}
+use Rattle.steps.specs.declared.Ending.{Ending}
+use Rattle.steps.specs.declared.Ending.the-variants.{Data, Stored, Owner, Host, Unclaimed, Clash, Silent}
+use Rattle.steps.specs.declared.Sight.{Sight}
+use Rattle.steps.specs.declared.Sight.the-variants.{Ends, Crosses}
+use Rattle.steps.specs.Ending.{Out, crossingsOf}
+use Rattle.steps.specs.Look.{unclaimed, owned, claimed, served, direct, target, look}
+use Rattle.steps.specs.Cross.{otherBus, turnsType0, passed, crossed}
 use Rattle.routes.specs.Route.{follow, busStep, bridgeStep}
 
 module _ (t : Tree) (h : Range) (x : Access) (im : Images) (bus driver : ℕ) (type0 : Bool) where

@@ -1,25 +1,24 @@
 // The way of an access: bus step and bridge step call each other, and the number of crossings still possible falls.
 ghost use mathlib.Core.Path.{_≡_};
-ghost use Prim.Native.Nat.{ℕ, _+_, _≤_, _<_};
-ghost use lib.Dec.{eqb};
+ghost use Prim.Native.Nat.{_+_, _<_};
 ghost use Rattle.rack.specs.Table.{treeOf};
+ghost use Rattle.rack.specs.Refusal.{rackRefusal};
 ghost use Rattle.registers.specs.Image.{images};
-ghost use Rattle.routes.specs.Ending.{out};
+ghost use Rattle.steps.specs.Ending.{out};
 ghost use Rattle.routes.specs.Route.{busStep, bridgeStep, possible, from, configure, received, returned, driven, access};
-use crate::Access;
-use crate::Ending;
-use crate::Outcome;
-use crate::Sight;
-use crate::cross::byte_of;
-use crate::cross::crossed_by;
-use crate::cross::other_bus;
-use crate::cross::turns_type0;
-use crate::look::look_on;
 use header::Side;
 use header::StatusBit;
+use header::offset::COMMAND;
+use steps::Access;
+use steps::Ending;
+use steps::Outcome;
+use steps::Sight;
+use steps::cross::byte_of;
+use steps::cross::crossed_by;
+use steps::cross::other_bus;
+use steps::cross::turns_type0;
+use steps::look::look_on;
 use window::Range;
-
-const COMMAND: usize = 0x04;
 
 // What a bus answers, at most `left` crossings from it.
 fn bus_step(
@@ -84,9 +83,10 @@ fn bridge_step(
 
 // The crossings that are possible from a bus on.
 fn possible_from(words: &[u64; 192], count: u8, bus: u8) -> usize
+    requires { ⌜ rackRefusal (treeOf count (now words)) ≡ 0 ⌝ }
     ensures { λ r. ⌜ (r ≡ possible (treeOf count (now (words .entry))) bus) × (r < 4096) ⌝ }
 {
-    rack::depth::depth_of(words, count, bus) + rack::depth::greatest_depth(words, count)
+    depths::depth_of(words, count, bus) + depths::greatest_depth(words, count)
 }
 
 fn route_from(
@@ -100,6 +100,7 @@ fn route_from(
     driver: u8,
     type0: bool,
 ) -> Ending
+    requires { ⌜ rackRefusal (treeOf count (now words)) ≡ 0 ⌝ }
     ensures { λ r. ⌜ out r (now (bridges .exit)) (now (devices .exit)) ≡ from (treeOf count (now (words .entry))) host x (images (now (bridges .entry)) (now (devices .entry))) bus driver type0 ⌝ }
 {
     let left = possible_from(words, count, bus);
@@ -126,6 +127,7 @@ pub fn route_configuration(
     host: Range,
     x: Access,
 ) -> Ending
+    requires { ⌜ rackRefusal (treeOf count (now words)) ≡ 0 ⌝ }
     ensures { λ r. ⌜ out r (now (bridges .exit)) (now (devices .exit)) ≡ configure (treeOf count (now (words .entry))) host x (images (now (bridges .entry)) (now (devices .entry))) ⌝ }
 {
     route_from(
@@ -205,6 +207,7 @@ fn route_device(
     x: Access,
     i: u8,
 ) -> Ending
+    requires { ⌜ rackRefusal (treeOf count (now words)) ≡ 0 ⌝ }
     ensures { λ r. ⌜ out r (now (bridges .exit)) (now (devices .exit)) ≡ driven (treeOf count (now (words .entry))) host x (images (now (bridges .entry)) (now (devices .entry))) i ⌝ }
 {
     let bus = rack::table::parent_at(words, i);
@@ -223,6 +226,7 @@ pub fn route_access(
     x: Access,
     i: u8,
 ) -> Ending
+    requires { ⌜ rackRefusal (treeOf count (now words)) ≡ 0 ⌝ }
     ensures { λ r. ⌜ out r (now (bridges .exit)) (now (devices .exit)) ≡ access (treeOf count (now (words .entry))) host x (images (now (bridges .entry)) (now (devices .entry))) i ⌝ }
 {
     if i == 255 {

@@ -11,6 +11,7 @@ use Rattle.header.specs.declared.Side.{Side}
 use Rattle.header.specs.declared.Side.the-variants.{Primary}
 use Rattle.header.specs.declared.StatusBit.{StatusBit}
 use Rattle.header.specs.declared.StatusBit.the-variants.{SignaledTargetAbort, ReceivedTargetAbort, ReceivedMasterAbort}
+use Rattle.header.specs.Offset.{COMMAND}
 use Rattle.registers.specs.Image.{Images, view, writeNode, statusNode}
 use Rattle.registers.specs.Fixed.{lengthsWrong, imageRefusal}
 use Rattle.registers_laws.specs.Accepted.{write-accepted, status-accepted}
@@ -18,19 +19,18 @@ use Rattle.window.specs.declared.Range.{Range}
 use Rattle.window.specs.Window.{bitAt}
 use Rattle.claims.specs.declared.Claimants.{Claimants}
 use Rattle.claims.specs.declared.Claimants.the-variants.{Nobody, One, Two}
-use Rattle.claims.specs.Agent.{COMMAND}
 use Rattle.claims.specs.Claimants.{claimants, firstTwo}
 use Rattle.claims_laws.specs.Apart.{SameButStatus, same-refl, same-trans, same-right, status-same}
-use Rattle.routes.specs.declared.Access.{Access}
-use Rattle.routes.specs.declared.Outcome.{Outcome}
-use Rattle.routes.specs.declared.Outcome.the-variants.{Abort, Done, Target}
-use Rattle.routes.specs.declared.Ending.{Ending}
-use Rattle.routes.specs.declared.Ending.the-variants.{Data, Stored, Owner, Host, Unclaimed, Clash, Silent}
-use Rattle.routes.specs.declared.Sight.{Sight}
-use Rattle.routes.specs.declared.Sight.the-variants.{Ends, Crosses}
-use Rattle.routes.specs.Ending.{Out}
-use Rattle.routes.specs.Look.{sideOn, masterAbort, unclaimed, claimed, served, direct, target, look}
-use Rattle.routes.specs.Cross.{otherBus, isConfiguration, turnsType0, towardsInitiator, towardsLater, lastOutcome, signalled, lastImages, passed, crossed}
+use Rattle.steps.specs.declared.Access.{Access}
+use Rattle.steps.specs.declared.Outcome.{Outcome}
+use Rattle.steps.specs.declared.Outcome.the-variants.{Abort, Done, Target}
+use Rattle.steps.specs.declared.Ending.{Ending}
+use Rattle.steps.specs.declared.Ending.the-variants.{Data, Stored, Owner, Host, Unclaimed, Clash, Silent}
+use Rattle.steps.specs.declared.Sight.{Sight}
+use Rattle.steps.specs.declared.Sight.the-variants.{Ends, Crosses}
+use Rattle.steps.specs.Ending.{Out}
+use Rattle.steps.specs.Look.{sideOn, masterAbort, unclaimed, claimed, served, direct, target, look}
+use Rattle.steps.specs.Cross.{otherBus, isConfiguration, turnsType0, towardsLater, lastOutcome, signalled, lastImages, passed, crossed}
 use Rattle.routes.specs.Route.{follow, busStep, bridgeStep, possible, from, configure, returned, access}
 
 -- a relation of images that holds over every status bit set and, where stores are allowed, over every write holds over a route
@@ -74,7 +74,7 @@ module _ (t : Tree) (h : Range) (x : Access) (R : Images → Images → Type 0) 
 
   signalled-keeps : (im : Images) (bus g : ℕ) → R im (signalled t im bus g)
   unfolding signalled
-  signalled-keeps im bus g = status im g (towardsInitiator bus g) SignaledTargetAbort
+  signalled-keeps im bus g = status im g (sideOn bus g) SignaledTargetAbort
 
   last-keeps : (im : Images) (bus g : ℕ) (o : Outcome) → R im (lastImages t im bus g o)
   last-keeps im bus g Abort = stay im

@@ -8,15 +8,15 @@ use lib.Dec.{eqb}
 use lib.ListN.{length}
 use Rattle.rack.specs.Bools.{tested}
 use Rattle.rack.specs.Tree.{Tree, host, parentOf}
+use Rattle.header.specs.Offset.{COMMAND}
 use Rattle.registers.specs.Image.{Images, view}
 use Rattle.window.specs.declared.Range.{Range}
 use Rattle.window.specs.Window.{bitAt}
-use Rattle.claims.specs.Agent.{COMMAND}
 use Rattle.claims.specs.Claimants.{claimants}
-use Rattle.routes.specs.declared.Access.{Access}
-use Rattle.routes.specs.Ending.{endingNumber}
-use Rattle.routes.specs.Look.{look}
-use Rattle.routes.specs.Cross.{otherBus, turnsType0}
+use Rattle.steps.specs.declared.Access.{Access}
+use Rattle.steps.specs.Ending.{endingNumber}
+use Rattle.steps.specs.Look.{look}
+use Rattle.steps.specs.Cross.{otherBus, turnsType0}
 use Rattle.routes.specs.Route.{busStep, bridgeStep, possible, configure, access}
 use Rattle.routes_laws.specs.Takers.{look-follows}
 use Rattle.routes_laws.specs.Numbers.{Sees, crossed-number, follow-number, look-sees}

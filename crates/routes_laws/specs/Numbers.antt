@@ -13,15 +13,15 @@ use Rattle.rack.specs.Tree.{Tree, host}
 use Rattle.registers.specs.Image.{Images}
 use Rattle.window.specs.declared.Range.{Range}
 use Rattle.claims.specs.Claimants.{claimants, firstTwo}
-use Rattle.routes.specs.declared.Access.{Access}
-use Rattle.routes.specs.declared.Outcome.the-variants.{Abort, Done, Target}
-use Rattle.routes.specs.declared.Ending.{Ending}
-use Rattle.routes.specs.declared.Ending.the-variants.{Data, Stored, Owner, Host, Unclaimed, Clash, Silent}
-use Rattle.routes.specs.declared.Sight.{Sight}
-use Rattle.routes.specs.declared.Sight.the-variants.{Ends, Crosses}
-use Rattle.routes.specs.Ending.{Out, endingNumber}
-use Rattle.routes.specs.Look.{unclaimed, owned, claimed, served, direct, target, look}
-use Rattle.routes.specs.Cross.{passed, crossed}
+use Rattle.steps.specs.declared.Access.{Access}
+use Rattle.steps.specs.declared.Outcome.the-variants.{Abort, Done, Target}
+use Rattle.steps.specs.declared.Ending.{Ending}
+use Rattle.steps.specs.declared.Ending.the-variants.{Data, Stored, Owner, Host, Unclaimed, Clash, Silent}
+use Rattle.steps.specs.declared.Sight.{Sight}
+use Rattle.steps.specs.declared.Sight.the-variants.{Ends, Crosses}
+use Rattle.steps.specs.Ending.{Out, endingNumber}
+use Rattle.steps.specs.Look.{unclaimed, owned, claimed, served, direct, target, look}
+use Rattle.steps.specs.Cross.{passed, crossed}
 use Rattle.routes.specs.Route.{follow}
 use Rattle.routes_laws.specs.Takers.{Taken, Follows}
 

@@ -15,10 +15,10 @@ use Rattle.rack_laws.specs.Sound.{parent-is, not-own}
 use Rattle.rack_laws.specs.Depths.{depth-step, depth-root, depth-greatest}
 use Rattle.registers.specs.Image.{Images}
 use Rattle.window.specs.declared.Range.{Range}
-use Rattle.routes.specs.declared.Access.{Access}
-use Rattle.routes.specs.Ending.{Out, crossingsOf}
-use Rattle.routes.specs.Look.{look}
-use Rattle.routes.specs.Cross.{otherBus, turnsType0, crossed}
+use Rattle.steps.specs.declared.Access.{Access}
+use Rattle.steps.specs.Ending.{Out, crossingsOf}
+use Rattle.steps.specs.Look.{look}
+use Rattle.steps.specs.Cross.{otherBus, turnsType0, crossed}
 use Rattle.routes.specs.Route.{busStep, bridgeStep, possible, from, configure}
 use Rattle.routes.specs.StepLaws.{bus-le}
 use Rattle.routes_laws.specs.Takers.{Taken, look-follows, follow-same}

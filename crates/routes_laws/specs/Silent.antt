@@ -10,15 +10,15 @@ use lib.Dec.{eqb}
 use borrow.Author.Tests.{ne-eqb}
 use Rattle.rack.specs.Tree.{Tree, host, parentOf}
 use Rattle.rack.specs.Refusal.{rackRefusal}
+use Rattle.header.specs.Offset.{COMMAND}
 use Rattle.rack_laws.specs.Sound.{not-host}
 use Rattle.registers.specs.Image.{Images, view}
 use Rattle.window.specs.declared.Range.{Range}
 use Rattle.window.specs.Window.{bitAt}
-use Rattle.claims.specs.Agent.{COMMAND}
-use Rattle.routes.specs.declared.Access.{Access}
-use Rattle.routes.specs.Ending.{endingNumber}
-use Rattle.routes.specs.Look.{look}
-use Rattle.routes.specs.Cross.{otherBus, turnsType0}
+use Rattle.steps.specs.declared.Access.{Access}
+use Rattle.steps.specs.Ending.{endingNumber}
+use Rattle.steps.specs.Look.{look}
+use Rattle.steps.specs.Cross.{otherBus, turnsType0}
 use Rattle.routes.specs.Route.{busStep, bridgeStep, possible, from, configure, access, spent}
 use Rattle.routes_laws.specs.Takers.{look-follows}
 use Rattle.routes_laws.specs.Possible.{IsBus, Enough, onward, parent-bus}

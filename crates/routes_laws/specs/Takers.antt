@@ -16,11 +16,11 @@ use Rattle.registers.specs.Image.{Images}
 use Rattle.window.specs.declared.Range.{Range}
 use Rattle.claims.specs.Claim.{claims}
 use Rattle.claims.specs.Claimants.{claimantsIn, claimants, firstTwo}
-use Rattle.routes.specs.declared.Access.{Access}
-use Rattle.routes.specs.declared.Sight.{Sight}
-use Rattle.routes.specs.declared.Sight.the-variants.{Ends, Crosses}
-use Rattle.routes.specs.Ending.{Out}
-use Rattle.routes.specs.Look.{unclaimed, owned, claimed, served, direct, target, look}
+use Rattle.steps.specs.declared.Access.{Access}
+use Rattle.steps.specs.declared.Sight.{Sight}
+use Rattle.steps.specs.declared.Sight.the-variants.{Ends, Crosses}
+use Rattle.steps.specs.Ending.{Out}
+use Rattle.steps.specs.Look.{unclaimed, owned, claimed, served, direct, target, look}
 use Rattle.routes.specs.Route.{follow}
 
 -- an agent of a bus: its holder, or a node on it

@@ -8,9 +8,9 @@ use Rattle.rack.specs.Tree.{Tree}
 use Rattle.registers.specs.Image.{Images, images}
 use Rattle.window.specs.declared.Range.{Range}
 use Rattle.claims.specs.declared.Space.the-variants as space
-use Rattle.routes.specs.declared.Access.{Access}
-use Rattle.routes.specs.declared.Ending.{Ending}
-use Rattle.routes.specs.Ending.{out}
+use Rattle.steps.specs.declared.Access.{Access}
+use Rattle.steps.specs.declared.Ending.{Ending}
+use Rattle.steps.specs.Ending.{out}
 use Rattle.routes.specs.Route.{configure, access}
 use Rattle.overlap.specs.declared.Report.{Report}
 use Rattle.overlap.specs.Check.{check}

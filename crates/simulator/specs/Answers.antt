@@ -3,7 +3,7 @@
 use Prim.Native.Nat.{ℕ}
 use mathlib.Core.List.{List, [], _∷_}
 use Rattle.registers.specs.Image.{Images, images}
-use Rattle.routes.specs.Ending.{endingNumber, endingValues}
+use Rattle.steps.specs.Ending.{endingNumber, endingValues}
 use Rattle.overlap.specs.Report.{reportNumber, reportValues}
 use Rattle.simulator.specs.declared.Answer.{Answer}
 use Rattle.simulator.specs.declared.Answer.the-variants.{Refused, Ended, Checked}

@@ -8,8 +8,8 @@ use Rattle.registers.specs.Image.{Images}
 use Rattle.window.specs.declared.Range.{Range}
 use Rattle.claims.specs.declared.Space.{Space}
 use Rattle.claims.specs.declared.Space.the-variants as space
-use Rattle.routes.specs.declared.Access.{Access}
-use Rattle.routes.specs.Ending.{Out}
+use Rattle.steps.specs.declared.Access.{Access}
+use Rattle.steps.specs.Ending.{Out}
 use Rattle.routes.specs.Route.{configure, access}
 use Rattle.overlap.specs.Check.{check}
 use Rattle.rackfile.specs.declared.Event.{Event}

@@ -3,7 +3,7 @@
 pub mod run;
 
 use overlap::Report;
-use routes::Ending;
+use steps::Ending;
 
 // The answer to an event: a refusal by its number, how an access ended, or what a check says.
 pub enum Answer {

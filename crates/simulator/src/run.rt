@@ -8,8 +8,7 @@ ghost use Rattle.simulator.specs.Run.{configuration, addressed, eventRun
 use crate::Answer;
 use claims::Space;
 use rackfile::Event;
-use routes::Access;
-use routes::Ending;
+use steps::Access;
 use window::Range;
 
 fn configuration_of(write: bool, bus: u8, device: u8, register: u8, enables: u8, put: u32) -> Access

@@ -12,7 +12,7 @@ use Rattle.rack.specs.declared.Region.{Region}
 use Rattle.rack.specs.declared.Node.{Node}
 use Rattle.rack.specs.Node.{isBridge, noRegion, noNode}
 use Rattle.rack.specs.Count.{countOf}
-use Rattle.header.specs.Offset.{STATUS, BASE-ADDRESS}
+use Rattle.header.specs.Offset.{COMMAND, STATUS, BASE-ADDRESS}
 use Rattle.header.specs.Mask.{writeMask, clearMask, regionWrite, regionReset, resetByte}
 use Rattle.header.specs.Register.{readRegister, writeByte, writeDword, writeRegister}
 use Rattle.header.specs.Sizing.{readBack, sizePart}
@@ -27,11 +27,11 @@ use Rattle.claims.specs.declared.Space.the-variants.{Memory, Configuration}
 use Rattle.claims.specs.Agent.{bridgeOf, deviceOf, agentOf}
 use Rattle.claims.specs.Claim.{primaryClaims, secondaryClaims, deviceClaims, hostClaims, claimsOf, windowsUntil, regionsUntil, untilOf}
 use Rattle.claims.specs.Claimants.{claimantsIn}
-use Rattle.routes.specs.declared.Access.{Access}
-use Rattle.routes.specs.declared.Sight.{Sight}
-use Rattle.routes.specs.declared.Sight.the-variants.{Ends, Crosses}
-use Rattle.routes.specs.Look.{owned, claimed, look}
-use Rattle.routes.specs.Cross.{turnsType0}
+use Rattle.steps.specs.declared.Access.{Access}
+use Rattle.steps.specs.declared.Sight.{Sight}
+use Rattle.steps.specs.declared.Sight.the-variants.{Ends, Crosses}
+use Rattle.steps.specs.Look.{owned, claimed, look}
+use Rattle.steps.specs.Cross.{turnsType0}
 use Rattle.overlap.specs.declared.Report.{Report}
 use Rattle.overlap.specs.declared.Report.the-variants.{Pass, Fault}
 use Rattle.overlap.specs.Report.{reportNumber, reportValues}
@@ -158,7 +158,7 @@ withStatus n status = set (set (resetPart n) STATUS (status % 256)) (STATUS + 1)
 
 -- the status after a write to its upper two bytes of the dword at 04h
 abbrev pub statusAfter : Node → ℕ → ℕ → ℕ
-statusAfter n status put = readRegister (writeRegister n (withStatus n status) 4 12 (put * 65536)) 4 / 65536
+statusAfter n status put = readRegister (writeRegister n (withStatus n status) COMMAND 12 (put * 65536)) COMMAND / 65536
 
 abbrev pub holds : Row → Bool
 holds (sizes kind e seen size) =

@@ -5,10 +5,10 @@ use mathlib.Core.Bool.{Bool}
 use mathlib.Core.List.{List}
 use lib.Dec.{eqb}
 use lib.ListN.{getD}
+use Rattle.header.specs.Offset.{IO-BASE, IO-LIMIT, MEMORY-BASE, MEMORY-LIMIT, PREF-MEMORY-BASE, PREF-MEMORY-LIMIT, PREF-BASE-UPPER32, PREF-LIMIT-UPPER32, IO-BASE-UPPER16, IO-LIMIT-UPPER16, BRIDGE-CONTROL}
 use Rattle.header.specs.Register.{dwordAt}
 use Rattle.window.specs.declared.Range.{Range}
 use Rattle.window.specs.declared.Windows.{Windows}
-use Rattle.window.specs.Offset.{IO-BASE, IO-LIMIT, MEMORY-BASE, MEMORY-LIMIT, PREF-MEMORY-BASE, PREF-MEMORY-LIMIT, PREF-BASE-UPPER32, PREF-LIMIT-UPPER32, IO-BASE-UPPER16, IO-LIMIT-UPPER16, BRIDGE-CONTROL}
 use Rattle.window.specs.Range.{window}
 
 -- two bytes, lowest first

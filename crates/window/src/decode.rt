@@ -1,36 +1,23 @@
 // The windows of a bridge from its 64 register bytes.
 ghost use mathlib.Core.Path.{_≡_};
-ghost use Prim.Native.Nat.{ℕ, _+_, _*_, _/_, _%_, _^_, _<_};
-ghost use lib.Dec.{eqb};
-ghost use lib.ListN.{getD};
+ghost use Prim.Native.Nat.{_+_, _*_, _/_, _%_, _^_, _<_};
 ghost use Rattle.window.specs.Range.{window};
-ghost use Rattle.window.specs.Window.{wordAt, bitAt, memoryGranule, prefetchableGranule, ioGranule, memoryOf, prefetchableOf, ioOf, windowsOf};
+ghost use Rattle.window.specs.Window.{wordAt, memoryOf, prefetchableOf, ioOf, windowsOf};
 use crate::Range;
 use crate::Windows;
+use header::offset::BRIDGE_CONTROL;
+use header::offset::IO_BASE;
+use header::offset::IO_BASE_UPPER16;
+use header::offset::IO_LIMIT;
+use header::offset::IO_LIMIT_UPPER16;
+use header::offset::MEMORY_BASE;
+use header::offset::MEMORY_LIMIT;
+use header::offset::PREF_BASE_UPPER32;
+use header::offset::PREF_LIMIT_UPPER32;
+use header::offset::PREF_MEMORY_BASE;
+use header::offset::PREF_MEMORY_LIMIT;
 use header::register::byte_at;
 use header::register::read_register;
-
-const IO_BASE: usize = 0x1c;
-
-const IO_LIMIT: usize = 0x1d;
-
-const MEMORY_BASE: usize = 0x20;
-
-const MEMORY_LIMIT: usize = 0x22;
-
-const PREF_MEMORY_BASE: usize = 0x24;
-
-const PREF_MEMORY_LIMIT: usize = 0x26;
-
-const PREF_BASE_UPPER32: u8 = 0x28;
-
-const PREF_LIMIT_UPPER32: u8 = 0x2c;
-
-const IO_BASE_UPPER16: usize = 0x30;
-
-const IO_LIMIT_UPPER16: usize = 0x32;
-
-const BRIDGE_CONTROL: usize = 0x3e;
 
 fn word_of(low: u8, high: u8) -> u16
     ensures { λ r. ⌜ r ≡ high * 256 + low ⌝ }

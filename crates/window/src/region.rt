@@ -1,12 +1,12 @@
 // The addresses of a device's region from its registers.
 ghost use mathlib.Core.Path.{_≡_};
-ghost use Prim.Native.Nat.{ℕ, _+_, _*_, _/_, _^_, _<_};
+ghost use Prim.Native.Nat.{_+_, _*_, _/_, _^_, _<_};
 ghost use Rattle.window.specs.Range.{window};
-ghost use Rattle.header.specs.Sizing.{regionRegister};
 ghost use Rattle.window.specs.Area.{regionValue, areaOf, holds};
 use crate::Area;
 use crate::Range;
 use crate::cut::within_range;
+use header::offset::BASE_ADDRESS;
 use header::register::read_register;
 
 fn size_of(e: u8) -> u64
@@ -60,7 +60,7 @@ pub fn area_of(part: &[u8], kind: u8, e: u8, r: u8) -> Area
             range: Range { first: 1, last: 0 },
         };
     }
-    let range = granule_of(region_value(part, kind, 16 + 8 * r), e);
+    let range = granule_of(region_value(part, kind, BASE_ADDRESS + 8 * r), e);
     Area { io, range }
 }
 

@@ -1,16 +1,20 @@
 use mathlib.Core.Path.{_≡_}
-use Prim.Native.Nat.{_/_, _-_}
+use Prim.Native.Nat.{_-_, _/_}
 use native.Mathlib.Omega.{arith}
 use borrow.Author.Needs.{needs}
+use Rattle.header.specs.Offset.{BASE-ADDRESS}
 use Rattle.header.proofs.mask.region_at.Statement.{statement}
 use Rattle.header.proofs.mask.region_at.Tie as tie
+
+cast-first : tie.Need-cast-first
+cast-first c = search needs
 
 element-copy-out-result : tie.Need-element-copy-out-result
 element-copy-out-result c = search needs
 
 returns : tie.Need-returns
 returns c =
-    let low : c .before .before .args .at / 8 - 2 ≡ 0 = omega arith in
+    let low : (c .before .before .args .at - BASE-ADDRESS) / 8 ≡ 0 = omega arith in
     rw low
 
 mul-result : tie.Need-mul-result
@@ -25,4 +29,4 @@ returns-2 c = search needs
 pub region-at-spec : {M : Type 1} → statement M
 region-at-spec =
     tie.close
-    (tie.spec element-copy-out-result returns mul-result element-copy-out-result-2 returns-2)
+    (tie.spec cast-first element-copy-out-result returns mul-result element-copy-out-result-2 returns-2)

@@ -3,6 +3,7 @@ use Prim.Native.Nat.{ℕ, _+_, _≤_, _<_}
 use native.Mathlib.Omega.{arith}
 use borrow.Author.Tests.{eq-eqb, ne-eqb}
 use borrow.Author.Needs.{needs}
+use Rattle.header.specs.Offset.{BASE-ADDRESS}
 use Rattle.header.specs.Sizing.{writtenBack, sizePart}
 use Rattle.header.proofs.Restore.{written-back}
 use Rattle.header.proofs.sizing.size_part.Statement.{statement}
@@ -80,7 +81,7 @@ returns-3 c =
     let known = at-if3 .before .before .before in
     let start = known .before in
     let l = start .args .part .now in
-    let back : (at : ℕ) → 16 ≤ at → at + 3 < 40 → writtenBack (start .args .n) l at ≡ l =
+    let back : (at : ℕ) → BASE-ADDRESS ≤ at → at + 3 < BASE-ADDRESS + 24 → writtenBack (start .args .n) l at ≡ l =
     written-back (start .args .n) (start .pre .0) l (λ i. known .slice-known .given i .fits) in
     let same : at-high .read-back3 .last .0 ≡ l = at-high .read-back3 .ensures .1 ∙ back _ (omega arith) (omega arith) in (
       simp (ne-eqb _ _ (at-if3 .before .before .if1 .left), ne-eqb _ _ (at-if3 .before .if2 .left), eq-eqb _ _ (at-if3 .if3 .taken), c .size-qword .ensures, at-low .read-back4 .ensures .0, same, at-high .read-back3 .ensures .0),

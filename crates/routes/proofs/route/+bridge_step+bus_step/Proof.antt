@@ -3,7 +3,7 @@ use Prim.Native.Nat.{_+_}
 use native.Mathlib.Omega.{arith}
 use Rattle.rack.specs.Table.{treeOf}
 use Rattle.registers.specs.Image.{images}
-use Rattle.routes.specs.Ending.{Out, crossingsOf}
+use Rattle.steps.specs.Ending.{Out, crossingsOf}
 use Rattle.routes.specs.StepLaws.{bus-le}
 use Rattle.routes.proofs.Taken.{step-ends, step-spent, step-on, step-across}
 use borrow.Author.Needs.{needs}
@@ -16,10 +16,10 @@ use Rattle.routes.proofs.route.+bridge_step+bus_step.Lts-bridge_step as
 use Rattle.routes.proofs.route.bus_step.Reads as bus-step
 use Rattle.routes.proofs.route.bus_step.Kinds as bus-step-kinds
 use Rattle.routes.proofs.route.+bridge_step+bus_step.Lts-bus_step as bus-step-lts
-use Rattle.routes.proofs.cross.crossed_by.Reads as crossed-by-reads
-use Rattle.routes.proofs.cross.other_bus.Reads as other-bus-reads
-use Rattle.routes.proofs.cross.turns_type0.Reads as turns-type0-reads
-use Rattle.routes.proofs.look.look_on.Reads as look-on-reads
+use Rattle.steps.proofs.cross.crossed_by.Reads as crossed-by-reads
+use Rattle.steps.proofs.cross.other_bus.Reads as other-bus-reads
+use Rattle.steps.proofs.cross.turns_type0.Reads as turns-type0-reads
+use Rattle.steps.proofs.look.look_on.Reads as look-on-reads
 use Rattle.routes.proofs.route.+bridge_step+bus_step.{statement}
 use Rattle.routes.proofs.route.+bridge_step+bus_step.Tie.{close}
 

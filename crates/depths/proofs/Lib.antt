@@ -1,0 +1,2 @@
+-- What the proof of greatest_depth uses.
+mod Known

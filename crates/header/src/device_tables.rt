@@ -1,0 +1,253 @@
+// The header tables of a device, byte by byte.
+
+// A device's writable bits, its regions aside.
+pub const DEVICE_WRITE: [u8; 64] = [
+    // 00h VENDOR_ID, DEVICE_ID
+    0x00,
+    0x00,
+    0x00,
+    0x00,
+    // 04h COMMAND, STATUS
+    0x47,
+    0x01,
+    0x00,
+    0x00,
+    // 08h REVISION_ID, CLASS_PROG, CLASS_DEVICE
+    0x00,
+    0x00,
+    0x00,
+    0x00,
+    // 0Ch CACHE_LINE_SIZE, LATENCY_TIMER, HEADER_TYPE, BIST
+    0xff,
+    0xff,
+    0x00,
+    0x00,
+    // 10h BASE_ADDRESS_0
+    0x00,
+    0x00,
+    0x00,
+    0x00,
+    // 14h BASE_ADDRESS_1
+    0x00,
+    0x00,
+    0x00,
+    0x00,
+    // 18h BASE_ADDRESS_2
+    0x00,
+    0x00,
+    0x00,
+    0x00,
+    // 1Ch BASE_ADDRESS_3
+    0x00,
+    0x00,
+    0x00,
+    0x00,
+    // 20h BASE_ADDRESS_4
+    0x00,
+    0x00,
+    0x00,
+    0x00,
+    // 24h BASE_ADDRESS_5
+    0x00,
+    0x00,
+    0x00,
+    0x00,
+    // 28h CARDBUS_CIS
+    0x00,
+    0x00,
+    0x00,
+    0x00,
+    // 2Ch SUBSYSTEM_VENDOR_ID, SUBSYSTEM_ID
+    0x00,
+    0x00,
+    0x00,
+    0x00,
+    // 30h ROM_ADDRESS
+    0x00,
+    0x00,
+    0x00,
+    0x00,
+    // 34h CAPABILITY_LIST
+    0x00,
+    0x00,
+    0x00,
+    0x00,
+    // 38h reserved
+    0x00,
+    0x00,
+    0x00,
+    0x00,
+    // 3Ch INTERRUPT_LINE, INTERRUPT_PIN, MIN_GNT, MAX_LAT
+    0xff,
+    0x00,
+    0x00,
+    0x00,
+];
+
+// A device's bits cleared by writing 1: status, F900h.
+pub const DEVICE_CLEAR: [u8; 64] = [
+    // 00h VENDOR_ID, DEVICE_ID
+    0x00,
+    0x00,
+    0x00,
+    0x00,
+    // 04h COMMAND, STATUS
+    0x00,
+    0x00,
+    0x00,
+    0xf9,
+    // 08h REVISION_ID, CLASS_PROG, CLASS_DEVICE
+    0x00,
+    0x00,
+    0x00,
+    0x00,
+    // 0Ch CACHE_LINE_SIZE, LATENCY_TIMER, HEADER_TYPE, BIST
+    0x00,
+    0x00,
+    0x00,
+    0x00,
+    // 10h BASE_ADDRESS_0
+    0x00,
+    0x00,
+    0x00,
+    0x00,
+    // 14h BASE_ADDRESS_1
+    0x00,
+    0x00,
+    0x00,
+    0x00,
+    // 18h BASE_ADDRESS_2
+    0x00,
+    0x00,
+    0x00,
+    0x00,
+    // 1Ch BASE_ADDRESS_3
+    0x00,
+    0x00,
+    0x00,
+    0x00,
+    // 20h BASE_ADDRESS_4
+    0x00,
+    0x00,
+    0x00,
+    0x00,
+    // 24h BASE_ADDRESS_5
+    0x00,
+    0x00,
+    0x00,
+    0x00,
+    // 28h CARDBUS_CIS
+    0x00,
+    0x00,
+    0x00,
+    0x00,
+    // 2Ch SUBSYSTEM_VENDOR_ID, SUBSYSTEM_ID
+    0x00,
+    0x00,
+    0x00,
+    0x00,
+    // 30h ROM_ADDRESS
+    0x00,
+    0x00,
+    0x00,
+    0x00,
+    // 34h CAPABILITY_LIST
+    0x00,
+    0x00,
+    0x00,
+    0x00,
+    // 38h reserved
+    0x00,
+    0x00,
+    0x00,
+    0x00,
+    // 3Ch INTERRUPT_LINE, INTERRUPT_PIN, MIN_GNT, MAX_LAT
+    0x00,
+    0x00,
+    0x00,
+    0x00,
+];
+
+// A device's reset values, its IDs and regions aside.
+pub const DEVICE_RESET: [u8; 64] = [
+    // 00h VENDOR_ID, DEVICE_ID
+    0x00,
+    0x00,
+    0x00,
+    0x00,
+    // 04h COMMAND, STATUS
+    0x00,
+    0x00,
+    0x00,
+    0x00,
+    // 08h REVISION_ID, CLASS_PROG, CLASS_DEVICE
+    0x00,
+    0x00,
+    0x00,
+    0xff,
+    // 0Ch CACHE_LINE_SIZE, LATENCY_TIMER, HEADER_TYPE, BIST
+    0x00,
+    0x00,
+    0x00,
+    0x00,
+    // 10h BASE_ADDRESS_0
+    0x00,
+    0x00,
+    0x00,
+    0x00,
+    // 14h BASE_ADDRESS_1
+    0x00,
+    0x00,
+    0x00,
+    0x00,
+    // 18h BASE_ADDRESS_2
+    0x00,
+    0x00,
+    0x00,
+    0x00,
+    // 1Ch BASE_ADDRESS_3
+    0x00,
+    0x00,
+    0x00,
+    0x00,
+    // 20h BASE_ADDRESS_4
+    0x00,
+    0x00,
+    0x00,
+    0x00,
+    // 24h BASE_ADDRESS_5
+    0x00,
+    0x00,
+    0x00,
+    0x00,
+    // 28h CARDBUS_CIS
+    0x00,
+    0x00,
+    0x00,
+    0x00,
+    // 2Ch SUBSYSTEM_VENDOR_ID, SUBSYSTEM_ID
+    0x00,
+    0x00,
+    0x00,
+    0x00,
+    // 30h ROM_ADDRESS
+    0x00,
+    0x00,
+    0x00,
+    0x00,
+    // 34h CAPABILITY_LIST
+    0x00,
+    0x00,
+    0x00,
+    0x00,
+    // 38h reserved
+    0x00,
+    0x00,
+    0x00,
+    0x00,
+    // 3Ch INTERRUPT_LINE, INTERRUPT_PIN, MIN_GNT, MAX_LAT
+    0x00,
+    0x00,
+    0x00,
+    0x00,
+];
