@@ -187,8 +187,8 @@ impl Plain {
 }
 
 // each bridge with a window inside the one above; ISA as asked for, VGA always
-fn rack(bridges: usize, isa: bool, faulty: bool) -> Rack {
-    let mut r = Rack::row(bridges);
+fn set(mut r: Rack, isa: bool, faulty: bool) -> Rack {
+    let last = r.devices.len() / 64 - 1;
     for (i, p) in r.bridges.chunks_mut(64).enumerate() {
         p[4] = 7;
         p[0x18..0x1b].copy_from_slice(&[i as u8, i as u8 + 1, 255]);
@@ -200,7 +200,7 @@ fn rack(bridges: usize, isa: bool, faulty: bool) -> Rack {
     }
     for (d, p) in r.devices.chunks_mut(64).enumerate() {
         p[4] = 6;
-        let other = if faulty && d == 2 * bridges - 1 { 0 } else { d % 2 };
+        let other = if faulty && d == last { 0 } else { d % 2 };
         let base = 0x8000_0000u32 + 0x20_0000 * (d / 2) as u32 + 0x10_0000 * other as u32;
         p[0x10..0x14].copy_from_slice(&base.to_le_bytes());
     }
@@ -231,10 +231,13 @@ fn measure(name: &str, r: Rack) {
 
 fn main() {
     println!("a check of                proved us  plain Rust us  ratio");
-    measure("32 bridges, clean", rack(32, true, false));
-    measure("32 bridges, last faulty", rack(32, true, true));
+    measure("32 bridges, clean", set(Rack::row(32), true, false));
+    measure("32 bridges, last faulty", set(Rack::row(32), true, true));
     for n in [4, 8, 16, 32] {
-        measure(&format!("{n} bridges, ISA"), rack(n, true, false));
-        measure(&format!("{n} bridges, no ISA"), rack(n, false, false));
+        measure(&format!("{n} bridges, ISA"), set(Rack::row(n), true, false));
+        measure(&format!("{n} bridges, no ISA"), set(Rack::row(n), false, false));
+    }
+    for n in [2, 4, 8, 15] {
+        measure(&format!("a bus of {} agents, ISA", n + 1), set(Rack::fan(n), true, false));
     }
 }

@@ -39,6 +39,16 @@ impl Rack {
         r
     }
 
+    // one bridge on the root bus and devices below it, each with one 4 KiB region of memory
+    pub fn fan(devices: usize) -> Rack {
+        let mut r = Rack { nodes: vec![], bridges: vec![0; 64], devices: vec![0; 64 * devices] };
+        r.nodes.push(Node { bridge: true, parent: 255, number: 0, place: 0, regions: [(0, 0); 3] });
+        for d in 0..devices {
+            r.nodes.push(Node { bridge: false, parent: 0, number: d as u8, place: d, regions: [(2, 12), (0, 0), (0, 0)] });
+        }
+        r
+    }
+
     pub fn part(&self, i: usize) -> &[u8] {
         let n = &self.nodes[i];
         let image = if n.bridge { &self.bridges } else { &self.devices };
