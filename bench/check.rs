@@ -2,7 +2,7 @@
 // over the same rack, clean and faulty, in one run.
 mod table;
 
-use table::{best, u16_at, u32_at, Rack};
+use table::{best, u16_at, u32_at, Node, Rack};
 
 extern "C" {
     fn bench_check(
@@ -186,6 +186,16 @@ impl Plain {
     }
 }
 
+// one bridge on the root bus and devices below it, each with one 4 KiB region of memory
+fn fan(devices: usize) -> Rack {
+    let mut r = Rack { nodes: vec![], bridges: vec![0; 64], devices: vec![0; 64 * devices] };
+    r.nodes.push(Node { bridge: true, parent: 255, number: 0, place: 0, regions: [(0, 0); 3] });
+    for d in 0..devices {
+        r.nodes.push(Node { bridge: false, parent: 0, number: d as u8, place: d, regions: [(2, 12), (0, 0), (0, 0)] });
+    }
+    r
+}
+
 // each bridge with a window inside the one above; ISA as asked for, VGA always
 fn set(mut r: Rack, isa: bool, faulty: bool) -> Rack {
     let last = r.devices.len() / 64 - 1;
@@ -238,6 +248,6 @@ fn main() {
         measure(&format!("{n} bridges, no ISA"), set(Rack::row(n), false, false));
     }
     for n in [2, 4, 8, 15] {
-        measure(&format!("a bus of {} agents, ISA", n + 1), set(Rack::fan(n), true, false));
+        measure(&format!("a bus of {} agents, ISA", n + 1), set(fan(n), true, false));
     }
 }

@@ -39,16 +39,6 @@ impl Rack {
         r
     }
 
-    // one bridge on the root bus and devices below it, each with one 4 KiB region of memory
-    pub fn fan(devices: usize) -> Rack {
-        let mut r = Rack { nodes: vec![], bridges: vec![0; 64], devices: vec![0; 64 * devices] };
-        r.nodes.push(Node { bridge: true, parent: 255, number: 0, place: 0, regions: [(0, 0); 3] });
-        for d in 0..devices {
-            r.nodes.push(Node { bridge: false, parent: 0, number: d as u8, place: d, regions: [(2, 12), (0, 0), (0, 0)] });
-        }
-        r
-    }
-
     pub fn part(&self, i: usize) -> &[u8] {
         let n = &self.nodes[i];
         let image = if n.bridge { &self.bridges } else { &self.devices };
@@ -69,11 +59,11 @@ impl Rack {
     }
 }
 
-// The least time of nine runs, in seconds, and what the last one gave.
+// The least time of 51 runs, in seconds, and what the last one gave.
 pub fn best(mut f: impl FnMut() -> u64) -> (f64, u64) {
     let mut least = f64::MAX;
     let mut value = 0;
-    for _ in 0..9 {
+    for _ in 0..51 {
         let t = Instant::now();
         value = f();
         least = least.min(t.elapsed().as_secs_f64());

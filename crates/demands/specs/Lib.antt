@@ -4,3 +4,4 @@ pub mod Going
 pub mod CRefusing
 pub mod CChecking
 pub mod CGoing
+pub mod CLater
