@@ -1,26 +1,20 @@
 -- The turns of the loops that walk up a tree and over its bridges.
 -- Assumes nothing.
-use mathlib.Core.Path.{_≡_, refl, sym, ap, _∙_}
-use mathlib.Core.Bool.{Bool, true, false, cond}
-use mathlib.Core.List.{List, [], _∷_}
-use Prim.Native.Nat.{ℕ, zero, suc, _+_, _-_, _≤_, _<_, max}
+use mathlib.Core.Path.{_≡_, sym, ap, _∙_}
+use mathlib.Core.Bool.{cond}
+use Prim.Native.Nat.{ℕ, _+_, _-_, _≤_, _<_, max}
 use native.Mathlib.Omega.{arith}
-use lib.Dec.{eqb}
-use borrow.Author.Tests.{eq-eqb, ne-eqb}
+use borrow.Author.Tests.{ne-eqb}
 use Rattle.rack.specs.Node.{isBridge}
 use Rattle.rack.specs.Bools.{tested}
 use Rattle.rack.specs.CountLaws.{left-suc, left-none}
+use Rattle.rack_laws.specs.Depths.{root-in}
 use Rattle.rack.specs.Tree.{Tree, host, parentOf, depthIn, depth, bridgesFrom, greatestOf, greatestDepth}
 
 module _ (t : Tree) where
-  root-of : (k : ℕ) → depthIn t k host ≡ 0
-  unfolding depthIn
-  root-of zero = refl
-  root-of (suc k) = refl
-
   -- a way up of n steps, of which some are made: at the root, at a bridge, at its end
   pub up-root : (n steps at : ℕ) → at ≡ host → depthIn t (n - steps) at ≡ 0
-  up-root n steps at e = ap (depthIn t (n - steps)) e ∙ root-of (n - steps)
+  up-root n steps at e = ap (depthIn t (n - steps)) e ∙ root-in t (n - steps)
 
   pub up-next : (n steps at : ℕ) → steps < n → (at ≡ host → ⊥)
       → depthIn t (n - steps) at ≡ depthIn t (n - (steps + 1)) (parentOf t at) + 1
@@ -52,4 +46,4 @@ module _ (t : Tree) where
   -- the root bus adds nothing
   pub greatest-is : greatestDepth t ≡ greatestOf t (bridgesFrom t 0 (t .count))
   unfolding greatestOf
-  greatest-is = omega (arith, root-of 256)
+  greatest-is = omega (arith, root-in t 256)

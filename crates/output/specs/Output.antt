@@ -40,7 +40,7 @@ eventsUpTo (suc left) b o = cond (leb (length b) o) [] (eventIn b o ∷ eventsUp
 abbrev pub eventsAt : List ℕ → ℕ → List Event
 eventsAt b o = eventsUpTo (length b) b o
 
--- the images of a rack at reset
+-- images as long as a rack's registers, before they are reset
 abbrev pub blank : Tree → Images
 blank t = images (replicate (64 * bridgeCount t) 0) (replicate (64 * deviceCount t) 0)
 

@@ -17,7 +17,8 @@ use Rattle.rack_laws.specs.Counts.{count-mono, count-past}
 use Rattle.rack_laws.specs.Sound.{parent-is, bridges-le, not-host}
 
 module _ (t : Tree) where
-  root-in : (k : ℕ) → depthIn t k host ≡ 0
+  -- the root bus has depth 0, whatever the number of steps
+  pub root-in : (k : ℕ) → depthIn t k host ≡ 0
   unfolding depthIn
   root-in zero = refl
   root-in (suc k) = refl

@@ -4,7 +4,7 @@ use Rattle.rack.specs.Tree.{depth, depthIn}
 use borrow.Author.Needs.{needs}
 use native.Mathlib.Omega.{arith}
 use Prim.Native.Nat.{ℕ, _+_, _-_, _≤_}
-use mathlib.Core.Path.{_≡_, sym, ap, _∙_}
+use mathlib.Core.Path.{_≡_, ap}
 use Rattle.depths.proofs.depth_of.Statement.{statement}
 use Rattle.depths.proofs.depth_of.Tie as tie
 
