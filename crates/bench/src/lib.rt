@@ -71,7 +71,7 @@ pub extern "C" fn bench_route(
     rounds: u16,
 ) -> u64 {
     let mut shown: u64 = 0xFFFF_FFFF_FFFF_FFFF;
-    if rack::refusal::refusal_of(words, count) != 0 {
+    if refusals::refusal_of(words, count) != 0 {
         return shown;
     }
     let mut i: u16 = 0;
@@ -108,12 +108,12 @@ pub extern "C" fn bench_check<'a>(
 ) -> u64 {
     let host = Range { first: 1, last: 0 };
     let mut shown: u64 = 0xFFFF_FFFF_FFFF_FFFF;
-    if rack::refusal::refusal_of(words, count) != 0 {
+    if refusals::refusal_of(words, count) != 0 {
         return shown;
     }
     let mut i: u8 = 0;
     while i < rounds {
-        shown = value_of(overlap::buses::check_rack(words, count, bridges, devices, host));
+        shown = value_of(checks::buses::check_rack(words, count, bridges, devices, host));
         i += 1;
     }
     shown

@@ -1,14 +1,14 @@
 // The calls, each with its answer as eight numbers; what is returned is 0 or the refusal's number.
 use crate::asked::Asked;
+use answers::put_answer;
+use answers::put_ends;
 use calls::Number;
-use calls::decoded::read_register;
-use calls::decoded::run_check;
-use calls::decoded::run_event;
-use calls::decoded::size_region;
-use calls::decoded::window_ends;
-use calls::decoded::write_register;
-use muzgante::answer::put_answer;
-use muzgante::answer::put_ends;
+use open_calls::read_register;
+use open_calls::run_check;
+use open_calls::run_event;
+use open_calls::size_region;
+use open_calls::window_ends;
+use open_calls::write_register;
 use rack::Rack;
 use rackfile::events::event_in;
 

@@ -1,6 +1,5 @@
-// Open calls: over a decoded rack, and below them over its table.
+// What the open calls do over the table of a rack; `open_calls` has them over a decoded rack, `muzgante` from C.
 
-pub mod decoded;
 pub mod nodes;
 pub mod refusal;
 pub mod runs;

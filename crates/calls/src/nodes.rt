@@ -112,5 +112,5 @@ pub fn ends_on<'a>(
     if refusal != 0 {
         return Bounds::Refused(refusal);
     }
-    bounds_of(claims::bounds::window_ends(words, count, bridges, devices, node, k))
+    bounds_of(claimants::bounds::window_ends(words, count, bridges, devices, node, k))
 }

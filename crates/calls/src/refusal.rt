@@ -15,7 +15,7 @@ pub fn refusal_by<'a>(
 ) -> u8
     ensures { λ r. ⌜ r ≡ refusalBy (treeOf count (now (words .entry))) (images (now (bridges .entry)) (now (devices .entry))) wrong ⌝ }
 {
-    let tree = rack::refusal::refusal_of(words, count);
+    let tree = refusals::refusal_of(words, count);
     if tree != 0 {
         return tree;
     }

@@ -44,5 +44,5 @@ pub fn check_on<'a>(
     if refusal != 0 {
         return Answer::Refused(refusal);
     }
-    Answer::Checked(overlap::buses::check_rack(words, count, bridges, devices, host))
+    Answer::Checked(checks::buses::check_rack(words, count, bridges, devices, host))
 }

@@ -1,8 +1,5 @@
-// Who claims an address on a bus, and how far upwards the answer stays the same.
+// Whether an agent of a bus claims an address, and how far upwards the answer stays the same.
 pub mod answer;
-pub mod bounds;
-pub mod bus;
-pub mod decode;
 
 use window::Area;
 use window::Range;

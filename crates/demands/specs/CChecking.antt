@@ -20,7 +20,8 @@ use Rattle.overlap.specs.Check.{check}
 use Rattle.guarantee.specs.Quiet.{OneClaimant, FirstFault, passed, passes, faulted}
 use Rattle.rackfile.specs.Load.{rackAlone, hostOf}
 use Rattle.simulator.specs.declared.Answer.the-variants.{Checked}
-use Rattle.muzgante.specs.Called.{Called, eight, refusedCall, numbersOf, answeredCall, rackCheck}
+use Rattle.answers.specs.Numbers.{eight, numbersOf}
+use Rattle.muzgante.specs.Called.{Called, refusedCall, answeredCall, rackCheck}
 use Rattle.demands.specs.CRefusing.{check-refuses}
 
 -- the first number of an answer: 1 to 7 how an access ended, 8 pass, 9 fault; 0 where the call is refused

@@ -23,7 +23,8 @@ use Rattle.simulator.specs.declared.Answer.{Answer}
 use Rattle.simulator.specs.declared.Answer.the-variants.{Refused, Ended, Checked}
 use Rattle.simulator.specs.Answers.{answerNumber, Answered}
 use Rattle.calls.specs.Call.{runIn, checkIn}
-use Rattle.muzgante.specs.Called.{Called, numbersOf, answeredCall, rackRun, rackCheck}
+use Rattle.answers.specs.Numbers.{numbersOf}
+use Rattle.muzgante.specs.Called.{Called, answeredCall, rackRun, rackCheck}
 use Rattle.demands.specs.Refusing.{accepts}
 use Rattle.demands.specs.Checking.{Fits, check-passes, event-agrees}
 use Rattle.demands.specs.Going.{Goes, event-goes, crossings, startBus, event-crossings}

@@ -25,7 +25,8 @@ use Rattle.rackfile.specs.LoadLaws.{alone-accepted}
 use Rattle.simulator.specs.declared.Answer.the-variants.{Checked}
 use Rattle.simulator.specs.Run.{eventRun}
 use Rattle.calls.specs.Call.{refusalBy, windowWrong, boundsOf, runIn, checkIn, boundsIn}
-use Rattle.muzgante.specs.Called.{Called, refusedCall, codeOf, endsCode, answeredCall, endsCall, rackRun, rackCheck, rackWindow, resetRefusal, resetIn}
+use Rattle.answers.specs.Numbers.{codeOf, endsCode}
+use Rattle.muzgante.specs.Called.{Called, refusedCall, answeredCall, endsCall, rackRun, rackCheck, rackWindow, resetRefusal, resetIn}
 use Rattle.demands.specs.Refusing.{by-image, by-field, accepts, accepted}
 
 -- 01, 'Refused, in this order', of a call from C that hands back r: b are its rack's bytes, `event` is the number that refuses its

@@ -21,7 +21,8 @@ use Rattle.simulator.specs.declared.Answer.{Answer}
 use Rattle.simulator.specs.Answers.{answered}
 use Rattle.calls.specs.declared.Bounds.{Bounds}
 use Rattle.calls.specs.Call.{runIn, checkIn, boundsIn}
-use Rattle.muzgante.specs.Called.{called, zeros, refusedCall, codeOf, numbersOf, endsCode, endsNumbers, answeredCall, endsCall, rackRun, rackCheck, rackWindow, resetRefusal, resetIn}
+use Rattle.answers.specs.Numbers.{zeros, codeOf, numbersOf, endsCode, endsNumbers}
+use Rattle.muzgante.specs.Called.{called, refusedCall, answeredCall, endsCall, rackRun, rackCheck, rackWindow, resetRefusal, resetIn}
 
 -- a refusal whose number is told
 told : {r n m : ℕ} {ns : List ℕ} (bs ds : List ℕ) → (r ≡ n) × (ns ≡ zeros) → n ≡ m

@@ -2,22 +2,17 @@
 -- Assumes nothing: these are definitions.
 use Prim.Native.Nat.{ℕ}
 use mathlib.Core.Bool.{cond}
-use mathlib.Core.List.{List, [], _∷_, _++_}
+use mathlib.Core.List.{List}
 use lib.Dec.{eqb}
-use lib.ListN.{take}
 use Rattle.registers.specs.Image.{Images, images}
 use Rattle.registers.specs.Fixed.{lengthsWrong}
 use Rattle.registers.specs.Reset.{resetImages}
-use Rattle.steps.specs.Ending.{endingNumber, endingValues}
-use Rattle.overlap.specs.Report.{reportNumber, reportValues}
 use Rattle.rackfile.specs.Events.{eventIn, eventBytes}
 use Rattle.rackfile.specs.Load.{rackAlone, hostOf}
-use Rattle.simulator.specs.declared.Answer.{Answer}
-use Rattle.simulator.specs.declared.Answer.the-variants.{Refused, Ended, Checked}
 use Rattle.simulator.specs.Answers.{Answered}
 use Rattle.calls.specs.declared.Bounds.{Bounds}
-use Rattle.calls.specs.declared.Bounds.the-variants as bounds
 use Rattle.calls.specs.Call.{runIn, checkIn, boundsIn}
+use Rattle.answers.specs.Numbers.{zeros, codeOf, numbersOf, endsCode, endsNumbers}
 
 -- 0 or the refusal's number, eight numbers, and both images
 pub record Called : Type 0 where
@@ -28,38 +23,9 @@ pub record Called : Type 0 where
 abbrev pub called : ℕ → List ℕ → List ℕ → List ℕ → Called
 called code numbers b d = record { code = code; numbers = numbers; after = images b d }
 
-abbrev pub zeros : List ℕ
-zeros = 0 ∷ 0 ∷ 0 ∷ 0 ∷ 0 ∷ 0 ∷ 0 ∷ 0 ∷ []
-
--- a number, its values, and zeros behind them: eight in all
-abbrev pub eight : ℕ → List ℕ → List ℕ
-eight number values = take 8 (number ∷ (values ++ zeros))
-
 -- a refusal: its number is returned, the answer is all 0, both images are untouched
 abbrev pub refusedCall : ℕ → Images → Called
 refusedCall refusal im = record { code = refusal; numbers = zeros; after = im }
-
-abbrev pub codeOf : Answer → ℕ
-codeOf (Refused n) = n
-codeOf (Ended e) = 0
-codeOf (Checked r) = 0
-
--- the answer's number and the fields of its line
-abbrev pub numbersOf : Answer → List ℕ
-numbersOf (Refused n) = zeros
-numbersOf (Ended e) = eight (endingNumber e) (endingValues e)
-numbersOf (Checked r) = eight (reportNumber r) (reportValues r)
-
--- both ends of a window or region: 1, the first and the last address; 0 where it is empty
-abbrev pub endsCode : Bounds → ℕ
-endsCode (bounds.Refused n) = n
-endsCode bounds.Empty = 0
-endsCode (bounds.FirstLast first last) = 0
-
-abbrev pub endsNumbers : Bounds → List ℕ
-endsNumbers (bounds.Refused n) = zeros
-endsNumbers bounds.Empty = zeros
-endsNumbers (bounds.FirstLast first last) = eight 1 (first ∷ last ∷ [])
 
 abbrev pub answeredCall : Answered → Called
 answeredCall a = record { code = codeOf (a .answer); numbers = numbersOf (a .answer); after = a .after }

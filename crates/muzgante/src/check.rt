@@ -2,9 +2,9 @@
 ghost use mathlib.Core.Path.{_≡_};
 ghost use Rattle.registers.specs.Image.{images};
 ghost use Rattle.muzgante.specs.Called.{called, rackCheck};
-use crate::answer::put_answer;
-use crate::answer::refuse;
-use rackfile::load::load_alone;
+use answers::put_answer;
+use answers::refuse;
+use loading::load_alone;
 use rackfile::record::host_in;
 
 // The check of a rack with its registers. Returns 0, or the refusal's number with `answer` all 0.

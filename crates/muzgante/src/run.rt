@@ -2,11 +2,11 @@
 ghost use mathlib.Core.Path.{_≡_};
 ghost use Rattle.registers.specs.Image.{images};
 ghost use Rattle.muzgante.specs.Called.{called, rackRun};
-use crate::answer::put_answer;
-use crate::answer::refuse;
+use answers::put_answer;
+use answers::refuse;
+use loading::load_alone;
 use rackfile::events::event_bytes;
 use rackfile::events::event_in;
-use rackfile::load::load_alone;
 use rackfile::record::host_in;
 
 // One event of a rack on its registers. Returns 0, or the refusal's number with `answer` all 0 and both images untouched.

@@ -2,9 +2,9 @@
 ghost use mathlib.Core.Path.{_≡_};
 ghost use Rattle.registers.specs.Image.{images};
 ghost use Rattle.muzgante.specs.Called.{called, rackWindow, resetRefusal, resetIn};
-use crate::answer::put_ends;
-use crate::answer::refuse;
-use rackfile::load::load_alone;
+use answers::put_ends;
+use answers::refuse;
+use loading::load_alone;
 
 // Both images filled with their reset values. Returns 0, or the refusal's number with both images untouched.
 #[no_mangle]

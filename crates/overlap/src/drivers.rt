@@ -67,7 +67,7 @@ fn driven_by<'a>(
         driver: by,
         address: a,
     };
-    let c = claims::bus::claimants_of(words, count, bridges, devices, host, t);
+    let c = claimants::bus::claimants_of(words, count, bridges, devices, host, t);
     shown_by(bus, space, a, by, c)
 }
 

@@ -1,9 +1,6 @@
-// The check: whether two agents of a bus claim what a third one drives.
+// Whether two agents of a bus claim what a third one drives; `checks` asks it of a whole rack.
 
-pub mod agents;
-pub mod buses;
 pub mod drivers;
-pub mod sweep;
 
 use claims::Space;
 

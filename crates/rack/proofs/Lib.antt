@@ -2,4 +2,3 @@
 mod Words
 mod Filled
 mod Grown
-mod Few

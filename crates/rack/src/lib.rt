@@ -3,7 +3,6 @@ ghost use mathlib.Core.Path.{_≡_};
 ghost use Rattle.rack.specs.Node.{kindNumber, isBridge};
 
 pub mod grow;
-pub mod refusal;
 pub mod table;
 
 // What a node is; one number each, as the rack file has it (`kindNumber`).
@@ -29,7 +28,7 @@ pub struct Node {
 }
 
 // A decoded rack: first and last address of host memory, and `count` nodes in file order.
-// It may hold anything; `refusal::rack_refusal` says whether it is a rack.
+// It may hold anything; crate `refusals` says whether it is a rack.
 pub struct Rack {
     pub first: u64,
     pub last: u64,

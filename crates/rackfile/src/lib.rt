@@ -1,7 +1,6 @@
-// Rack files: records from bytes, the first faulty record with its number, and events one at a time.
+// Rack files: records from bytes, and events one at a time. `loading` walks a file up to its first faulty record.
 
 pub mod events;
-pub mod load;
 pub mod number;
 pub mod record;
 

@@ -7,10 +7,10 @@ ghost use Rattle.rack.specs.Refusal.{rackRefusal};
 use libc::STDIN_FILENO;
 use libc::STDOUT_FILENO;
 use listing::Line;
+use loading::load_file;
 use output::Cursor;
 use output::fill::fill;
 use rackfile::Loaded;
-use rackfile::load::load_file;
 
 // The first n bytes; false where they cannot be written.
 fn print(bytes: &[u8], n: usize) -> bool {

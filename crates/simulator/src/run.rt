@@ -117,7 +117,7 @@ pub fn answer_event(
                 initiator,
             ))
         }
-        Event::Check => Answer::Checked(overlap::buses::check_rack(
+        Event::Check => Answer::Checked(checks::buses::check_rack(
             words,
             count,
             bridges,

@@ -1,5 +1,4 @@
-// What one bus does with an access, and what one bridge does with it; `routes` is the cycle of the two.
-pub mod cross;
+// What one bus does with an access. `crossing` is what one bridge does with it, `routes` the cycle of the two.
 pub mod look;
 
 use claims::Space;

@@ -116,7 +116,7 @@ fn owned_by<'a>(
     }
     let part = registers::image::view_of(words, count, bridges, devices, g);
     let space = x.space;
-    let r = claims::decode::device_of(n, part).reached_region(is_io(space), x.address);
+    let r = claimants::decode::device_of(n, part).reached_region(is_io(space), x.address);
     Sight::Ends(Ending::Owner {
         crossings: 0,
         node: g,
@@ -262,6 +262,6 @@ pub fn look_on(
         driver,
         address: x.address,
     };
-    let c = claims::bus::claimants_of(words, count, bridges, devices, host, t);
+    let c = claimants::bus::claimants_of(words, count, bridges, devices, host, t);
     claimed_by(words, count, bridges, devices, host, x, bus, driver, c)
 }

@@ -16,9 +16,9 @@ use Rattle.routes.proofs.route.+bridge_step+bus_step.Lts-bridge_step as
 use Rattle.routes.proofs.route.bus_step.Reads as bus-step
 use Rattle.routes.proofs.route.bus_step.Kinds as bus-step-kinds
 use Rattle.routes.proofs.route.+bridge_step+bus_step.Lts-bus_step as bus-step-lts
-use Rattle.steps.proofs.cross.crossed_by.Reads as crossed-by-reads
-use Rattle.steps.proofs.cross.other_bus.Reads as other-bus-reads
-use Rattle.steps.proofs.cross.turns_type0.Reads as turns-type0-reads
+use Rattle.crossing.proofs.crossed_by.Reads as crossed-by-reads
+use Rattle.crossing.proofs.other_bus.Reads as other-bus-reads
+use Rattle.crossing.proofs.turns_type0.Reads as turns-type0-reads
 use Rattle.steps.proofs.look.look_on.Reads as look-on-reads
 use Rattle.routes.proofs.route.+bridge_step+bus_step.{statement}
 use Rattle.routes.proofs.route.+bridge_step+bus_step.Tie.{close}

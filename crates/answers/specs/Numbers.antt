@@ -1,0 +1,41 @@
+-- An answer as eight numbers: its own, the fields of its line, and zeros behind them; and what a call returns with it.
+-- Assumes nothing: these are definitions.
+use Prim.Native.Nat.{ℕ}
+use mathlib.Core.List.{List, [], _∷_, _++_}
+use lib.ListN.{take}
+use Rattle.steps.specs.Ending.{endingNumber, endingValues}
+use Rattle.overlap.specs.Report.{reportNumber, reportValues}
+use Rattle.simulator.specs.declared.Answer.{Answer}
+use Rattle.simulator.specs.declared.Answer.the-variants.{Refused, Ended, Checked}
+use Rattle.calls.specs.declared.Bounds.{Bounds}
+use Rattle.calls.specs.declared.Bounds.the-variants as bounds
+
+abbrev pub zeros : List ℕ
+zeros = 0 ∷ 0 ∷ 0 ∷ 0 ∷ 0 ∷ 0 ∷ 0 ∷ 0 ∷ []
+
+-- a number, its values, and zeros behind them: eight in all
+abbrev pub eight : ℕ → List ℕ → List ℕ
+eight number values = take 8 (number ∷ (values ++ zeros))
+
+-- 0, or the refusal's number
+abbrev pub codeOf : Answer → ℕ
+codeOf (Refused n) = n
+codeOf (Ended e) = 0
+codeOf (Checked r) = 0
+
+-- the answer's number and the fields of its line
+abbrev pub numbersOf : Answer → List ℕ
+numbersOf (Refused n) = zeros
+numbersOf (Ended e) = eight (endingNumber e) (endingValues e)
+numbersOf (Checked r) = eight (reportNumber r) (reportValues r)
+
+-- both ends of a window or region: 1, the first and the last address; 0 where it is empty
+abbrev pub endsCode : Bounds → ℕ
+endsCode (bounds.Refused n) = n
+endsCode bounds.Empty = 0
+endsCode (bounds.FirstLast first last) = 0
+
+abbrev pub endsNumbers : Bounds → List ℕ
+endsNumbers (bounds.Refused n) = zeros
+endsNumbers bounds.Empty = zeros
+endsNumbers (bounds.FirstLast first last) = eight 1 (first ∷ last ∷ [])

@@ -1,0 +1,64 @@
+-- A list that is filled, agent by agent, with what a list of their numbers stands for.
+-- Assumes nothing.
+use mathlib.Core.Path.{_≡_, sym, ap, subst, _∙_}
+use mathlib.Core.List.{List, [], _∷_}
+use Prim.Native.Nat.{ℕ, suc, _+_, _≤_, _<_}
+use native.Mathlib.Omega.{arith}
+use borrow.Author.Count.{below-none, below-more}
+use lib.ListN.{length, getD, set, length-set}
+use lib.Seq.{getD-set-same, getD-set-other}
+use Rattle.claims.specs.declared.Agent.{Agent}
+use Rattle.overlap.specs.Stretch.{nobody}
+
+-- the first n of `all` are in `found`, and `rest` are the others
+pub record Filled (g : ℕ → Agent) (all rest : List ℕ) (found : List Agent) (n : ℕ) : Type 0 where
+  pub long : length found ≡ 17
+  pub left : n + length rest ≡ length all
+  pub others : (j : ℕ) → getD rest j 0 ≡ getD all (n + j) 0
+  pub held : (j : ℕ) → j < n → getD found j nobody ≡ g (getD all j 0)
+
+-- the first agent alone
+pub filled-one : (g : ℕ → Agent) (x : ℕ) (rest : List ℕ) (found : List Agent) → length found ≡ 17
+    → getD found 0 nobody ≡ g x → Filled g (x ∷ rest) rest found 1
+filled-one g x rest found e first =
+    record {
+      long = e;
+      left = omega arith;
+      others = λ j. let s : suc j ≡ 1 + j = omega arith in ap (λ (k : ℕ). getD (x ∷ rest) k 0) s;
+      held =
+          below-more (λ j. getD found j nobody ≡ g (getD (x ∷ rest) j 0)) 0
+          (below-none (λ j. getD found j nobody ≡ g (getD (x ∷ rest) j 0))) first;
+    }
+
+module _ {g : ℕ → Agent} {all rest : List ℕ} {found : List Agent} {n : ℕ} (f : Filled g all rest found n) where
+  -- the others by another name
+  pub filled-same : {others : List ℕ} → rest ≡ others → Filled g all others found n
+  filled-same e = subst (λ (l : List ℕ). Filled g all l found n) e f
+
+  -- there is room for one more
+  pub room : {x : ℕ} {more : List ℕ} → rest ≡ x ∷ more → length all ≤ 17 → n < 17
+  room e few = omega (arith, f .left, ap length e)
+
+  -- one agent more
+  pub filled-more : {x : ℕ} {more : List ℕ} {v : Agent} → rest ≡ x ∷ more → length all ≤ 17 → v ≡ g x
+      → Filled g all more (set found n v) (n + 1)
+  filled-more {x} {more} {v} e few ev =
+      let h : n < 17 = room e few in
+      let zero-on : n + 0 ≡ n = omega arith in
+      let here : x ≡ getD all n 0 = sym (ap (λ (l : List ℕ). getD l 0 0) e) ∙ f .others 0 ∙ ap (λ (k : ℕ). getD all k 0) zero-on in
+      record {
+        long = length-set found n v ∙ f .long;
+        left = omega (arith, f .left, ap length e);
+        others =
+            λ j.
+            let s : n + suc j ≡ n + 1 + j = omega arith in
+            sym (ap (λ (l : List ℕ). getD l (suc j) 0) e) ∙ f .others (suc j) ∙ ap (λ (k : ℕ). getD all k 0) s;
+        held =
+            below-more (λ j. getD (set found n v) j nobody ≡ g (getD all j 0)) n
+            (λ j hj. getD-set-other found n j v nobody (λ q. omega arith) ∙ f .held j hj)
+            (getD-set-same found n v nobody (omega (arith, f .long)) ∙ ev ∙ ap g here);
+      }
+
+  -- no agent is left
+  pub filled-all : rest ≡ [] → (j : ℕ) → j < length all → getD found j nobody ≡ g (getD all j 0)
+  filled-all e j h = f .held j (omega (arith, f .left, ap length e))

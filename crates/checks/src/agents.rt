@@ -1,0 +1,57 @@
+// The agents of a bus, decoded once for all that is asked of them.
+ghost use mathlib.Core.Path.{_≡_};
+ghost use Prim.Native.Nat.{_≤_};
+ghost use lib.ListN.{length};
+ghost use Rattle.rack.specs.Table.{treeOf};
+ghost use Rattle.rack.specs.Tree.{agents};
+ghost use Rattle.registers.specs.Image.{images};
+ghost use Rattle.overlap.specs.Stretch.{Gathered};
+use claimants::decode::agent_at;
+use claims::Agent;
+use rack::table::parent_at;
+use window::Range;
+
+// How many agents a bus has.
+pub fn agent_count(words: &[u64; 192], count: u8, bus: u8) -> usize
+    ensures { λ r. ⌜ r ≡ length (agents (treeOf count (now (words .entry))) bus) ⌝ }
+{
+    let mut found: usize = 1;
+    let mut i: u8 = 0;
+    while i < count {
+        if parent_at(words, i) == bus {
+            found += 1;
+            i += 1;
+        } else {
+            i += 1;
+        }
+    }
+    found
+}
+
+// The agents of a bus in agent order: the holder, then the nodes by number.
+pub fn agents_on<'a>(
+    words: &[u64; 192],
+    count: u8,
+    bridges: &'a [u8],
+    devices: &'a [u8],
+    host: Range,
+    bus: u8,
+) -> [Agent; 17]
+    requires { ⌜ length (agents (treeOf count (now words)) bus) ≤ 17 ⌝ }
+    ensures { λ r. ⌜ Gathered (treeOf count (now (words .entry))) host (images (now (bridges .entry)) (now (devices .entry))) bus r ⌝ }
+{
+    let holder = agent_at(words, count, bridges, devices, host, bus, bus);
+    let mut found = [holder; 17];
+    let mut n: usize = 1;
+    let mut i: u8 = 0;
+    while i < count {
+        if parent_at(words, i) == bus {
+            found[n] = agent_at(words, count, bridges, devices, host, bus, i);
+            n += 1;
+            i += 1;
+        } else {
+            i += 1;
+        }
+    }
+    found
+}

@@ -1,0 +1,73 @@
+// The search of a space from stretch to stretch: past an address go all up to which every agent's claim stays the same.
+ghost use mathlib.Core.Path.{_≡_};
+ghost use Prim.Native.Nat.{_+_, _-_, _≤_};
+ghost use mathlib.Core.Bool.{cond};
+ghost use lib.ListN.{length};
+ghost use Rattle.rack.specs.Table.{treeOf};
+ghost use Rattle.rack.specs.Tree.{agents};
+ghost use Rattle.registers.specs.Image.{images};
+ghost use Rattle.overlap.specs.Check.{firstFrom, atValue};
+ghost use Rattle.overlap.specs.Stretch.{Gathered};
+use claims::Agent;
+use claims::Space;
+use overlap::Report;
+use overlap::drivers::found_at;
+use overlap::drivers::is_fault;
+use window::Range;
+
+fn one_if(yes: bool) -> usize
+    ensures { λ r. ⌜ (r ≡ cond yes 1 0) × (r ≤ 1) ⌝ }
+{
+    if yes { 1 } else { 0 }
+}
+
+// The first fault of a bus among the values from first to last of a space. The agents stay in this function: handed down
+// they would be copied at every step.
+pub fn sweep<'a>(
+    words: &[u64; 192],
+    count: u8,
+    bridges: &'a [u8],
+    devices: &'a [u8],
+    host: Range,
+    bus: u8,
+    gathered: [Agent; 17],
+    n: usize,
+    space: Space,
+    first: u64,
+    last: u64,
+) -> Report
+    requires { ⌜ (n ≡ length (agents (treeOf count (now words)) bus)) × (n ≤ 17) × (first ≤ last) × Gathered (treeOf count (now words)) host (images (now bridges) (now devices)) bus gathered ⌝ }
+    ensures { λ r. ⌜ r ≡ firstFrom (atValue (treeOf count (now (words .entry))) host (images (now (bridges .entry)) (now (devices .entry))) bus space) (last + 1 - first) first ⌝ }
+{
+    let mut a = first;
+    loop {
+        let mut claiming: usize = 0;
+        let mut until = last;
+        let mut i: usize = 0;
+        while i < n {
+            let g = gathered[i];
+            let v = g.verdict(space, a, until);
+            claiming += one_if(v.claims);
+            until = v.until;
+            i += 1;
+        }
+        let r = found_at(
+            words,
+            count,
+            bridges,
+            devices,
+            host,
+            bus,
+            space,
+            a,
+            claiming,
+        );
+        if is_fault(r) {
+            return r;
+        }
+        if last <= until {
+            return Report::Pass;
+        }
+        a = until + 1;
+    }
+}

@@ -1,0 +1,40 @@
+use Rattle.claims.specs.Agent.{bridgeOf}
+use Prim.Native.Nat.{_/_}
+use native.Mathlib.Omega.{arith}
+use mathlib.Core.Path.{_≡_}
+use borrow.Author.Needs.{needs}
+use Rattle.claimants.proofs.decode.bridge_of.Statement.{statement}
+use Rattle.claimants.proofs.decode.bridge_of.Tie as tie
+
+byte-at-requires : tie.Need-byte-at-requires
+byte-at-requires c κs = search needs
+
+windows-of-requires : tie.Need-windows-of-requires
+windows-of-requires c κs = search needs
+
+byte-at-requires-2 : tie.Need-byte-at-requires-2
+byte-at-requires-2 c κs = search needs
+
+byte-at-requires-3 : tie.Need-byte-at-requires-3
+byte-at-requires-3 c κs = search needs
+
+bus-range-requires : tie.Need-bus-range-requires
+bus-range-requires c κs = search needs
+
+returns : tie.Need-returns
+unfolding bridgeOf
+returns c =
+    let at-byte = c .before .before .before .before in
+    let e : at-byte .byte-at .result / 1 ≡ at-byte .byte-at .result = omega arith in
+    simp (← at-byte .byte-at .ensures, e, c .before .before .before .windows-of .ensures, c .bus-range .ensures, c .before .byte-at3 .ensures, c .before .before .byte-at2 .ensures)
+
+pub bridge-of-spec : {M : Type 1} → statement M
+bridge-of-spec =
+    tie.close
+    (tie.spec
+    byte-at-requires
+    windows-of-requires
+    byte-at-requires-2
+    byte-at-requires-3
+    bus-range-requires
+    returns)

@@ -1,0 +1,88 @@
+// The claimants of a bus.
+ghost use mathlib.Core.Path.{_≡_};
+ghost use Prim.Native.Nat.{_-_};
+ghost use Rattle.rack.specs.Table.{treeOf};
+ghost use Rattle.registers.specs.Image.{images};
+ghost use Rattle.claims.specs.Claimants.{counted, onBus, nextFrom, claimants, firstTwo};
+use crate::decode::agent_at;
+use claims::Claimants;
+use claims::Transaction;
+use rack::table::parent_at;
+use window::Range;
+
+// Whether agent g claims and does not drive.
+fn counts<'a>(
+    words: &[u64; 192],
+    count: u8,
+    bridges: &'a [u8],
+    devices: &'a [u8],
+    host: Range,
+    t: Transaction,
+    g: u8,
+) -> bool
+    ensures { λ r. ⌜ r ≡ counted (treeOf count (now (words .entry))) host (images (now (bridges .entry)) (now (devices .entry))) (t .space) (t .bus) (t .driver) (t .address) g ⌝ }
+{
+    if g == t.driver {
+        return false;
+    }
+    let agent = agent_at(words, count, bridges, devices, host, t.bus, g);
+    let space = t.space;
+    agent.claims(space, t.address)
+}
+
+// The first node on the bus, from number `from` on, that claims; 255 for none.
+fn next_claimant<'a>(
+    words: &[u64; 192],
+    count: u8,
+    bridges: &'a [u8],
+    devices: &'a [u8],
+    host: Range,
+    t: Transaction,
+    from: u8,
+) -> u8
+    ensures { λ r. ⌜ r ≡ nextFrom (onBus (treeOf count (now (words .entry))) host (images (now (bridges .entry)) (now (devices .entry))) (t .space) (t .bus) (t .driver) (t .address)) from (count - from) ⌝ }
+{
+    let bus = t.bus;
+    let mut i = from;
+    while i < count {
+        if parent_at(words, i) == bus {
+            if counts(words, count, bridges, devices, host, t, i) {
+                return i;
+            }
+            i += 1;
+        } else {
+            i += 1;
+        }
+    }
+    255
+}
+
+// The claimants of a transaction, in agent order: the holder, then the nodes by number.
+pub fn claimants_of<'a>(
+    words: &[u64; 192],
+    count: u8,
+    bridges: &'a [u8],
+    devices: &'a [u8],
+    host: Range,
+    t: Transaction,
+) -> Claimants
+    ensures { λ r. ⌜ r ≡ firstTwo (claimants (treeOf count (now (words .entry))) host (images (now (bridges .entry)) (now (devices .entry))) (t .space) (t .bus) (t .driver) (t .address)) ⌝ }
+{
+    let bus = t.bus;
+    let holder = counts(words, count, bridges, devices, host, t, bus);
+    let one = next_claimant(words, count, bridges, devices, host, t, 0);
+    if one == 255 {
+        if holder {
+            return Claimants::One(bus);
+        }
+        return Claimants::Nobody;
+    }
+    if holder {
+        return Claimants::Two(bus, one);
+    }
+    let two = next_claimant(words, count, bridges, devices, host, t, one + 1);
+    if two == 255 {
+        return Claimants::One(one);
+    }
+    Claimants::Two(one, two)
+}

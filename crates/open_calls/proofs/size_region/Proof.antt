@@ -1,0 +1,27 @@
+use mathlib.Core.Path.{ap, _∙_}
+use Rattle.rack.specs.Tree.{Tree}
+use Rattle.registers.specs.Image.{images}
+use Rattle.calls.specs.Call.{sizeIn}
+use borrow.Author.Needs.{needs}
+use Rattle.open_calls.proofs.size_region.Statement.{statement}
+use Rattle.open_calls.proofs.size_region.Tie as tie
+
+table-of-requires : tie.Need-table-of-requires
+table-of-requires c κs = search needs
+
+size-on-requires : tie.Need-size-on-requires
+size-on-requires c κs = search needs
+
+same-length : tie.Need-same-length
+same-length c = search needs
+
+same-length-2 : tie.Need-same-length-2
+same-length-2 c = search needs
+
+returns : tie.Need-returns
+returns c = let a = c .before .before .before .before .before .before .before .before .before .before .before .before .args in
+    (c .before .before .before .before .size-on .ensures .0 ∙ ap (λ (t : Tree). sizeIn t (images (a .bridges .now) (a .devices .now)) (a .node) (a .region)) (c .before .before .before .before .before .before .before .before .before .table-of .ensures), c .before .before .before .before .size-on .ensures .1)
+
+pub size-region-spec : {M : Type 1} → statement M
+size-region-spec =
+    tie.close (tie.spec table-of-requires size-on-requires same-length same-length-2 returns)

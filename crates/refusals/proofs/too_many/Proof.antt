@@ -1,0 +1,44 @@
+use Rattle.rack.specs.TreeLaws.{below-le}
+use Rattle.refusals.proofs.Few.{many-bridges, many-devices}
+use Rattle.rack.specs.Table.{nodeAt}
+use native.Mathlib.Omega.{arith}
+use borrow.Author.Needs.{needs}
+use Rattle.refusals.proofs.too_many.Statement.{statement}
+use Rattle.refusals.proofs.too_many.Tie as tie
+
+bridges-below-requires : tie.Need-bridges-below-requires
+bridges-below-requires c κs = search needs
+
+node-at-requires : tie.Need-node-at-requires
+node-at-requires c κs = search needs
+
+is-bridge-requires : tie.Need-is-bridge-requires
+is-bridge-requires c κs = search needs
+
+sub-result : tie.Need-sub-result
+sub-result c =
+    let a = c .before .before .before .before .args in
+    omega (arith, c .before .before .before .bridges-below .ensures, below-le (nodeAt (a .words .now)) (a .i))
+
+returns : tie.Need-returns
+returns c =
+    let a = c .before .before .before .before .args in
+    many-bridges (nodeAt (a .words .now)) (a .i) (c .before .before .before .bridges-below .ensures) (c .before .before .node-at .ensures)
+    (c .before .is-bridge .ensures) (c .if1 .taken)
+
+returns-2 : tie.Need-returns-2
+returns-2 c =
+    let a = c .before .before .before .before .args in
+    many-devices (nodeAt (a .words .now)) (a .i) (c .before .before .before .bridges-below .ensures) (c .before .before .node-at .ensures)
+    (c .before .is-bridge .ensures) (c .if1 .left)
+
+pub too-many-spec : {M : Type 1} → statement M
+too-many-spec =
+    tie.close
+    (tie.spec
+    bridges-below-requires
+    node-at-requires
+    is-bridge-requires
+    sub-result
+    returns
+    returns-2)

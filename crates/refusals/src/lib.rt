@@ -1,0 +1,138 @@
+// Refusals 6 to 10 of a decoded rack: node by node, the lowest number within a node.
+ghost use mathlib.Core.Path.{_≡_};
+ghost use mathlib.Core.Bool.{cond};
+ghost use Prim.Native.Nat.{ℕ};
+ghost use Rattle.rack.specs.Tree.{tree};
+ghost use Rattle.rack.specs.Table.{nodeAt, treeOf};
+ghost use Rattle.rack.specs.Refusal.{tooMany, badParent, highDevice, sameSlot, takenDevice, regionRange, regionsRange, badRegion, nodeRefusal, rackRefusal};
+use rack::Node;
+use rack::Rack;
+use rack::table::bridges_below;
+use rack::table::node_at;
+use rack::table::table_of;
+
+// 6
+fn too_many(words: &[u64; 192], i: usize) -> bool
+    ensures { λ r. ⌜ r ≡ tooMany (nodeAt (now (words .entry))) i ⌝ }
+{
+    let bridges = bridges_below(words, i);
+    let n = node_at(words, i);
+    let kind = n.kind;
+    if rack::is_bridge(kind) {
+        32 <= bridges
+    } else {
+        64 <= i - bridges
+    }
+}
+
+// 7
+fn bad_parent(words: &[u64; 192], i: usize) -> bool
+    ensures { λ r. ⌜ r ≡ badParent (nodeAt (now (words .entry))) i ⌝ }
+{
+    let n = node_at(words, i);
+    let parent = n.parent as usize;
+    let above = node_at(words, parent);
+    let kind = above.kind;
+    let bridge = rack::is_bridge(kind);
+    !((parent == 255) | ((parent < i) & bridge))
+}
+
+// 8
+fn high_device(words: &[u64; 192], i: usize) -> bool
+    ensures { λ r. ⌜ r ≡ highDevice (nodeAt (now (words .entry))) i ⌝ }
+{
+    let n = node_at(words, i);
+    15 < n.device
+}
+
+fn same_slot(m: Node, n: Node) -> bool
+    ensures { λ r. ⌜ r ≡ sameSlot m n ⌝ }
+{
+    (m.parent == n.parent) & (m.device == n.device)
+}
+
+// 9
+fn taken_device(words: &[u64; 192], i: usize) -> bool
+    ensures { λ r. ⌜ r ≡ takenDevice (nodeAt (now (words .entry))) i ⌝ }
+{
+    let n = node_at(words, i);
+    let mut j: usize = 0;
+    while j < i {
+        if same_slot(node_at(words, j), n) {
+            return true;
+        }
+        j += 1;
+    }
+    false
+}
+
+fn region_range(kind: u8, e: u8) -> bool
+    ensures { λ r. ⌜ r ≡ regionRange kind e ⌝ }
+{
+    ((kind == 0) & (e == 0))
+        | ((kind == 1) & ((2 <= e) & (e <= 8)))
+        | (((kind == 2) | (kind == 3)) & ((4 <= e) & (e <= 31)))
+}
+
+fn regions_range(n: Node) -> bool
+    ensures { λ r. ⌜ r ≡ regionsRange n ⌝ }
+{
+    let r0 = n.regions[0];
+    let r1 = n.regions[1];
+    let r2 = n.regions[2];
+    region_range(r0.kind, r0.exponent)
+        & region_range(r1.kind, r1.exponent)
+        & region_range(r2.kind, r2.exponent)
+}
+
+// 10
+fn bad_region(words: &[u64; 192], i: usize) -> bool
+    ensures { λ r. ⌜ r ≡ badRegion (nodeAt (now (words .entry))) i ⌝ }
+{
+    let n = node_at(words, i);
+    let kind = n.kind;
+    !(rack::is_bridge(kind) | regions_range(n))
+}
+
+// The lowest number that applies to a node, 0 where none does.
+pub fn node_refusal(words: &[u64; 192], i: usize) -> u8
+    ensures { λ r. ⌜ r ≡ nodeRefusal (nodeAt (now (words .entry))) i ⌝ }
+{
+    if too_many(words, i) {
+        return 6;
+    }
+    if bad_parent(words, i) {
+        return 7;
+    }
+    if high_device(words, i) {
+        return 8;
+    }
+    if taken_device(words, i) {
+        return 9;
+    }
+    if bad_region(words, i) { 10 } else { 0 }
+}
+
+// The refusal of a rack's table, 0 where there is none.
+pub fn refusal_of(words: &[u64; 192], count: u8) -> u8
+    ensures { λ r. ⌜ r ≡ rackRefusal (treeOf count (now (words .entry))) ⌝ }
+{
+    let end = count as usize;
+    let mut i: usize = 0;
+    while i < end {
+        let found = node_refusal(words, i);
+        if found != 0 {
+            return found;
+        }
+        i += 1;
+    }
+    0
+}
+
+// The refusal of a decoded rack, whatever it holds; 0 where there is none.
+pub fn rack_refusal(rack: Rack) -> u8
+    ensures { λ r. ⌜ r ≡ rackRefusal (tree rack) ⌝ }
+{
+    let t = table_of(rack);
+    refusal_of(&t.words, t.count)
+}
