@@ -98,10 +98,11 @@ def mangled(rng):
 
 
 def long(rng):
-    """At and around the longest length."""
+    """At and around the longest length; as checks these are the most events that a file can have."""
     rack, later = bare(rng)
     length = len(b"".join(rack + later))
-    return rack, later + [read(0, 0, 0)] * ((MOST - length) // 4 + rng.choice((-1, 0, 1)))
+    event = rng.choice((read(0, 0, 0), CHECK))
+    return rack, later + [event] * ((MOST - length) // len(event) + rng.choice((-1, 0, 1)))
 
 
 SHAPES = ((small, 30), (wild, 20), (deep, 8), (full, 3), (wide, 8), (bare, 6), (too_many, 3), (broken, 16), (mangled, 8), (cut, 5), (long, 1))
