@@ -82,7 +82,7 @@ pub extern "C" fn bench_route(
     shown
 }
 
-// A fault's value plus one, 0 for a pass.
+// Half of a fault's value, plus one, so that it fits; 0 for a pass.
 fn value_of(r: Report) -> u64 {
     match r {
         Report::Pass => 0,

@@ -2,7 +2,7 @@
 -- Assumes nothing: these are definitions.
 use Prim.Native.Nat.{ℕ}
 use mathlib.Core.Bool.{Bool, _||_, cond}
-use mathlib.Core.List.{List, []}
+use mathlib.Core.List.{List, [], _∷_}
 use lib.Dec.{leb, ltb, eqb}
 use Rattle.rack.specs.declared.Rack.{Rack}
 use Rattle.rack.specs.Node.{isBridge}
@@ -59,6 +59,16 @@ windowWrong t i k = missing t i || ltb 2 k
 -- a refusal's number, or a value
 abbrev pub numberOr : ℕ → ℕ → Number
 numberOr refusal value = cond (eqb refusal 0) (number.Value value) (number.Refused refusal)
+
+-- 01: 'Where an answer is an enum, the promises use a definition. That definition gives this paper's number and values for each of
+-- the enum's cases': the refusal's number, 0 where there is none, and the value
+abbrev pub numberCode : Number → ℕ
+numberCode (number.Refused n) = n
+numberCode (number.Value v) = 0
+
+abbrev pub numberValues : Number → List ℕ
+numberValues (number.Refused n) = []
+numberValues (number.Value v) = v ∷ []
 
 unfoldable pub readIn : Tree → Images → ℕ → ℕ → Number
 readIn t im i register = numberOr (refusalBy t im (readWrong t i register)) (readRegister (view t im i) register)

@@ -2,7 +2,7 @@
 -- Assumes nothing.
 use mathlib.Core.Path.{_≡_, refl, sym, _∙_}
 use mathlib.Core.Bool.{Bool, true, false}
-use mathlib.Core.List.{[]}
+use mathlib.Core.List.{[], _∷_}
 use Prim.Native.Nat.{ℕ}
 use native.Mathlib.Omega.{arith}
 use lib.Dec.{eqb}
@@ -16,7 +16,9 @@ use Rattle.window.specs.declared.Range.{Range}
 use Rattle.rackfile.specs.declared.Event.{Event}
 use Rattle.rackfile.specs.Events.{eventWrong}
 use Rattle.simulator.specs.declared.Answer.the-variants.{Refused}
-use Rattle.calls.specs.Call.{refusalBy, missing, storeWrong, storedIn, viewIn, runIn}
+use Rattle.claims.specs.Ends.{windowEnds}
+use Rattle.calls.specs.declared.Bounds.the-variants as bounds
+use Rattle.calls.specs.Call.{refusalBy, missing, storeWrong, windowWrong, numberOr, numberCode, numberValues, storedIn, viewIn, boundsOf, boundsIn, runIn}
 
 module _ (t : Tree) (im : Images) (wrong : Bool) where
   -- 6 to 10 of the rack come first
@@ -55,7 +57,27 @@ module _ (t : Tree) (im : Images) (wrong : Bool) where
       thirteen : _≡_ {A = ℕ} 13 0 → ⊥
       thirteen e = omega arith
 
+-- a register read and sizing: a refusal is told by its number and with no value
+pub number-refused : (refusal value : ℕ) → (refusal ≡ 0 → ⊥)
+    → (numberCode (numberOr refusal value) ≡ refusal) × (numberValues (numberOr refusal value) ≡ [])
+number-refused refusal value ne = rw (ne-eqb refusal 0 ne) (refl, refl)
+
+-- otherwise 0 and the value
+pub number-accepted : (refusal value : ℕ) → refusal ≡ 0
+    → (numberCode (numberOr refusal value) ≡ 0) × (numberValues (numberOr refusal value) ≡ value ∷ [])
+number-accepted refusal value z = rw (eq-eqb refusal 0 z) (refl, refl)
+
 module _ (t : Tree) (im : Images) where
+  -- both ends of a window or region: the refusal's number, or what the registers give
+  pub ends-refused : (i k : ℕ) → (refusalBy t im (windowWrong t i k) ≡ 0 → ⊥)
+      → boundsIn t im i k ≡ bounds.Refused (refusalBy t im (windowWrong t i k))
+  unfolding boundsIn
+  ends-refused i k ne = rw (ne-eqb (refusalBy t im (windowWrong t i k)) 0 ne)
+
+  pub ends-accepted : (i k : ℕ) → refusalBy t im (windowWrong t i k) ≡ 0 → boundsIn t im i k ≡ boundsOf (windowEnds t im i k)
+  unfolding boundsIn
+  ends-accepted i k z = rw (eq-eqb (refusalBy t im (windowWrong t i k)) 0 z)
+
   -- a refused register write stores nothing
   pub write-untouched : (i register enables put : ℕ) → (refusalBy t im (storeWrong t i register enables) ≡ 0 → ⊥)
       → storedIn t im i register enables put ≡ im

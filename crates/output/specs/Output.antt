@@ -18,6 +18,7 @@ use Rattle.simulator.specs.declared.Answer.{Answer}
 use Rattle.simulator.specs.declared.Answer.the-variants.{Refused, Ended, Checked}
 use Rattle.simulator.specs.Run.{eventRun}
 use Rattle.listing.specs.Line.{endingLine, reportLine, refusedLine}
+use Rattle.output.specs.declared.Cursor.{Cursor}
 
 -- the line of an answer; a run refuses no event (`output_laws`, `none-refused`), so there is nothing to print of that
 abbrev pub answerLine : ℕ → Answer → List ℕ
@@ -43,6 +44,10 @@ eventsAt b o = eventsUpTo (length b) b o
 -- images as long as a rack's registers, before they are reset
 abbrev pub blank : Tree → Images
 blank t = images (replicate (64 * bridgeCount t) 0) (replicate (64 * deviceCount t) 0)
+
+-- where a run begins: at an offset, with number 1
+abbrev pub firstAt : ℕ → Cursor
+firstAt o = record { offset = o; number = 1 }
 
 -- 01: '`rackrun` reads a rack file from standard input, checks all of it, then runs it from reset'; 'A refused input prints only
 -- `refused N at O`'

@@ -2,6 +2,7 @@
 
 pub mod fill;
 mod line;
+pub mod start;
 
 // The next event of a file: its offset and its number, which counts from 1.
 pub struct Cursor {

@@ -15,7 +15,7 @@ use Rattle.window.specs.declared.Range.{Range}
 use Rattle.rackfile.specs.Load.{fileIn, hostOf}
 use Rattle.listing.specs.Line.{refusedLine}
 use Rattle.output.specs.declared.Cursor.{Cursor}
-use Rattle.output.specs.Output.{blank, outputOf}
+use Rattle.output.specs.Output.{blank, firstAt, outputOf}
 use Rattle.output.specs.Filling.{partOf}
 use Rattle.output.specs.FillingLaws.{progress}
 use Rattle.output_laws.specs.Parts.{linesAt, lines-past, part-lines}
@@ -40,7 +40,7 @@ module _ (t : Tree) (h : Range) (b : List ℕ) where
 module _ (b : List ℕ) where
   -- where a run begins: at the first event, with number 1, and from reset
   abbrev pub firstOf : Cursor
-  firstOf = record { offset = fileIn b .offset; number = 1 }
+  firstOf = firstAt (fileIn b .offset)
 
   abbrev pub resetOf : Images
   resetOf = resetImages (fileIn b .tree) (blank (fileIn b .tree))

@@ -10,6 +10,7 @@ use listing::Line;
 use loading::load_file;
 use output::Cursor;
 use output::fill::fill;
+use output::start::start;
 use rackfile::Loaded;
 
 // The first n bytes; false where they cannot be written.
@@ -67,8 +68,7 @@ fn print_events(
 )
     requires { ⌜ (rackRefusal (treeOf count (now words)) ≡ 0) × (length (now file) ≤ 65536) ⌝ }
 {
-    registers::reset::reset_images(words, count, bridges, devices);
-    let mut next = Cursor { offset, number: 1 };
+    let mut next = start(words, count, bridges, devices, offset);
     while next.offset < file.len() {
         next = print_part(file, words, count, bridges, devices, next);
     }

@@ -1,8 +1,9 @@
-use mathlib.Core.Path.{_≡_, refl}
+use mathlib.Core.Path.{_≡_, refl, ap}
 use Prim.Native.Nat.{_+_, _-_, _≤_}
 use native.Mathlib.Omega.{arith}
 use lib.ListN.{length}
 use borrow.Author.Needs.{needs}
+use Rattle.output.specs.declared.Cursor.{Cursor}
 use Rattle.rackrun.proofs.print_events.Statement.{statement}
 use Rattle.rackrun.proofs.print_events.Tie as tie
 
@@ -13,11 +14,11 @@ Inv-loop file words count bridges₀ devices₀ offset next₀ bridges devices n
 abbrev μ-loop : tie.MeasureT-loop
 μ-loop file words count bridges₀ devices₀ offset next₀ bridges devices next = length file - next .offset
 
-reset-images-requires : tie.Need-reset-images-requires Inv-loop μ-loop
-reset-images-requires c κs = search needs
+start-requires : tie.Need-start-requires Inv-loop μ-loop
+start-requires c κs = search needs
 
 loop-holds : tie.Need-loop-holds Inv-loop μ-loop
-loop-holds c = (refl, refl, omega arith)
+loop-holds c = (refl, refl, omega (arith, ap (λ (next : Cursor). next .number) (c .before .before .before .before .start .ensures .0)))
 
 print-part-requires : tie.Need-print-part-requires Inv-loop μ-loop
 print-part-requires c κs = search needs
@@ -43,7 +44,7 @@ print-events-spec =
     (tie.spec
     Inv-loop
     μ-loop
-    reset-images-requires
+    start-requires
     loop-holds
     print-part-requires
     loop-less
