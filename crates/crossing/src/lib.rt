@@ -1,6 +1,6 @@
 // What a bridge makes of the answer of the bus on its other side.
 ghost use mathlib.Core.Path.{_≡_};
-ghost use Prim.Native.Nat.{_<_};
+ghost use Prim.Native.Nat.{_+_, _<_};
 ghost use lib.ListN.{getD};
 ghost use Rattle.rack.specs.Table.{treeOf};
 ghost use Rattle.registers.specs.Image.{images, view};
@@ -199,6 +199,14 @@ fn passed_by(
     }
 }
 
+// One crossing more.
+fn one_more(crossings: u32) -> u32
+    requires { ⌜ crossings < 4096 ⌝ }
+    ensures { λ r. ⌜ r ≡ crossings + 1 ⌝ }
+{
+    crossings + 1
+}
+
 // The answer of bridge g, from that of the bus on its other side.
 pub fn crossed_by(
     words: &[u64; 192],
@@ -215,11 +223,11 @@ pub fn crossed_by(
 {
     match e {
         Ending::Data { crossings, value } => Ending::Data {
-            crossings: crossings + 1,
+            crossings: one_more(crossings),
             value,
         },
         Ending::Stored { crossings } => Ending::Stored {
-            crossings: crossings + 1,
+            crossings: one_more(crossings),
         },
         Ending::Owner {
             crossings,
@@ -227,13 +235,13 @@ pub fn crossed_by(
             region,
             offset,
         } => Ending::Owner {
-            crossings: crossings + 1,
+            crossings: one_more(crossings),
             node,
             region,
             offset,
         },
         Ending::Host { crossings, offset } => Ending::Host {
-            crossings: crossings + 1,
+            crossings: one_more(crossings),
             offset,
         },
         Ending::Unclaimed {
@@ -258,7 +266,7 @@ pub fn crossed_by(
             first,
             second,
         } => Ending::Clash {
-            crossings: crossings + 1,
+            crossings: one_more(crossings),
             holder,
             first,
             second,

@@ -27,6 +27,9 @@ use Rattle.claims.specs.declared.Space.the-variants.{Memory, Configuration}
 use Rattle.claims.specs.Agent.{bridgeOf, deviceOf, agentOf}
 use Rattle.claims.specs.Claim.{primaryClaims, secondaryClaims, deviceClaims, hostClaims, claimsOf, windowsUntil, regionsUntil, untilOf}
 use Rattle.claims.specs.Claimants.{claimantsIn}
+use Rattle.claims.specs.declared.Ends as ends
+use Rattle.claims.specs.declared.Ends.the-variants.{Empty, FirstLast}
+use Rattle.claims.specs.Ends.{endsOf, windowIn}
 use Rattle.steps.specs.declared.Access.{Access}
 use Rattle.steps.specs.declared.Sight.{Sight}
 use Rattle.steps.specs.declared.Sight.the-variants.{Ends, Crosses}
@@ -61,6 +64,8 @@ pub data Row : Type 0 where
   sizes : ℕ → ℕ → ℕ → ℕ → Row
   -- a window of a bridge; registers written over a bridge at reset; addresses that are in it, and addresses that are not
   holds-of : Window → List Poke → List ℕ → List ℕ → Row
+  -- registers written over a bridge at reset that leave a window without an address
+  none-in : Window → List Poke → Row
   -- registers written over a bridge on the root bus; a bus number that it takes across as Type 1
   crosses : List Poke → ℕ → Row
   -- a header kind; a status, what is written to it, and the status then
@@ -103,6 +108,16 @@ abbrev pub answer : Window → List ℕ → ℕ → Bool
 answer memory part a = inMemory (windowsOf part) a
 answer prefetchable part a = inPrefetchable (windowsOf part) a
 answer io part a = insideIo (windowsOf part) a
+
+-- a window's number, by which its ends are asked for
+abbrev pub number : Window → ℕ
+number memory = 0
+number prefetchable = 1
+number io = 2
+
+abbrev pub isEmpty : ends.Ends → Bool
+isEmpty Empty = true
+isEmpty (FirstLast first last) = false
 
 -- every address of a list has the answer
 abbrev pub each : Window → List ℕ → Bool → List ℕ → Bool
@@ -165,6 +180,7 @@ holds (sizes kind e seen size) =
     eqb (readBack (device kind e) (resetPart (device kind e)) BASE-ADDRESS) seen
     && eqb (sizePart (device kind e) (resetPart (device kind e)) kind BASE-ADDRESS) size
 holds (holds-of w ps ins outs) = each w (poked ps) true ins && each w (poked ps) false outs
+holds (none-in w ps) = isEmpty (endsOf (windowIn (windowsOf (poked ps)) (number w)))
 holds (crosses ps bus) = asType1 (poked ps) bus
 holds (clears k status put after) = eqb (statusAfter (node k noRegion) status put) after
 holds (checks fs r) = sameReport (check (rackOf fs) empty (imagesOf fs)) r
@@ -202,6 +218,7 @@ rows =
     -- 6: 'Memory 8010h, 8000h: empty'
     ∷ holds-of memory (byte 0x20 0x10 ∷ byte 0x21 0x80 ∷ byte 0x23 0x80 ∷ []) []
     (0x7FFFFFFF ∷ 0x80000000 ∷ 0x800FFFFF ∷ 0x80100000 ∷ 0x801FFFFF ∷ [])
+    ∷ none-in memory (byte 0x20 0x10 ∷ byte 0x21 0x80 ∷ byte 0x23 0x80 ∷ [])
     -- 7: 'Prefetchable 0001h, upper 1, both: 100000000h in, 100100000h out'
     ∷ holds-of prefetchable (byte 0x24 0x01 ∷ byte 0x26 0x01 ∷ byte 0x28 0x01 ∷ byte 0x2c 0x01 ∷ []) (0x100000000 ∷ []) (0x100100000 ∷ [])
     ∷ sizes 2 12 0xfffff000 0x1000  -- 8: '32-bit, e = 12: read back FFFFF000h, size 1000h'
@@ -223,5 +240,5 @@ two-pass = checked 40 _ _ _ _ refl
 
 -- every row holds
 pub table : all rows ≡ true
-unfolding resetFrom resetByte regionReset regionWrite writeMask clearMask readRegister writeByte writeDword writeRegister readBack sizePart windowsOf insideIo nodesFrom partOf view bridgeOf agentOf primaryClaims hostClaims claimsOf claimantsIn owned claimed look turnsType0
+unfolding endsOf windowIn resetFrom resetByte regionReset regionWrite writeMask clearMask readRegister writeByte writeDword writeRegister readBack sizePart windowsOf insideIo nodesFrom partOf view bridgeOf agentOf primaryClaims hostClaims claimsOf claimantsIn owned claimed look turnsType0
 table = rw (three-faults, two-pass) refl
