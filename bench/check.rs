@@ -1,5 +1,5 @@
-// The check of a full rack of 32 bridges and 64 devices, ISA and VGA on every bridge: the proved sweep beside a plain Rust sweep
-// over the same rack, clean and faulty, in one run.
+// The check, by the proved sweep beside a plain Rust sweep over the same rack, in one run: of a full rack of 32 bridges and 64
+// devices, clean and faulty; of 4 to 32 bridges, with ISA and without; of a bus of 3 to 16 agents.
 mod table;
 
 use table::{best, u16_at, u32_at, Node, Rack};
@@ -154,7 +154,7 @@ impl Plain {
         }
     }
 
-    // the value of the first fault and one more, 0 for a pass
+    // half of the value of the first fault, and one more; 0 for a pass
     fn check(&self) -> u64 {
         let bridges = (0..self.0.nodes.len()).filter(|&i| self.0.nodes[i].bridge).map(|i| i as u8);
         for bus in std::iter::once(255).chain(bridges) {

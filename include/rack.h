@@ -20,7 +20,7 @@ extern "C" {
 /* Refusals, in the order in which they are looked for. */
 enum {
     RACK_TOO_LONG = 1,       /* more than 65,536 bytes of rack */
-    RACK_NO_KIND = 2,        /* a kind that is not 1 to 3 in the rack, or not 4 to 8 in the event */
+    RACK_NO_KIND = 2,        /* a kind that is not 1 to 3 in the rack, or not 4 to 8 in the event, or no event byte */
     RACK_CUT_SHORT = 3,      /* a record cut short; an event of another length than its own */
     RACK_HOST = 4,           /* no record, a first one that is no host, or a second host */
     RACK_AFTER_EVENT = 5,    /* files alone: a rack record behind an event */

@@ -193,6 +193,7 @@ class Firmware:
         for register, space in ((MEMORY, "memory"), (PREFETCHABLE, "prefetchable")):
             first, last = ends[space]
             out.append((register, 15, (first >> 20 & 0xFFF) << 4 | (last >> 20 & 0xFFF) << 20))
+        first, last = ends["prefetchable"]
         out += [(PREFETCHABLE_BASE_UPPER, 15, first >> 32), (PREFETCHABLE_LIMIT_UPPER, 15, last >> 32)]
         out.append((CONTROL, 12, self.control(rng, odd) << 16))
         return out + [(COMMAND, 3, rng.getrandbits(3) if rng.random() < odd else 7)]

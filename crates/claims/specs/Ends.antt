@@ -1,7 +1,7 @@
 -- Both ends of a window or of a region, as the trainer prints them in every exercise.
 -- Assumes nothing: these are definitions.
 use Prim.Native.Nat.{ℕ}
-use mathlib.Core.Bool.{Bool, cond}
+use mathlib.Core.Bool.{cond}
 use lib.Dec.{ltb, eqb}
 use Rattle.rack.specs.Node.{isBridge}
 use Rattle.rack.specs.Tree.{Tree}

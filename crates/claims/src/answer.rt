@@ -1,6 +1,6 @@
 // The one question, does this agent claim this address, and how far upwards the answer stays the same.
 ghost use mathlib.Core.Path.{_≡_};
-ghost use Prim.Native.Nat.{ℕ, _-_, _≤_};
+ghost use Prim.Native.Nat.{_-_, _≤_};
 ghost use Rattle.claims.specs.Claim.{inRegions, primaryClaims, secondaryClaims, deviceClaims, hostClaims, claimsOf, windowsUntil, regionsUntil, untilOf, reached, offsetIn};
 use crate::Agent;
 use crate::BridgeClaims;

@@ -59,12 +59,6 @@ pub record SameBytes (n : Node) (p q : List ℕ) : Type 0 where
   pub bits : (k : ℕ) → bitAnd (getD p k 0) (255 - clearMask n k) ≡ bitAnd (getD q k 0) (255 - clearMask n k)
   pub above : (k : ℕ) → getD p k 0 / 256 ≡ getD q k 0 / 256
 
--- of bytes the first says it all
-pub bytes-same : (n : Node) (p q : List ℕ) → ((k : ℕ) → getD p k 0 < 256) → ((k : ℕ) → getD q k 0 < 256)
-    → ((k : ℕ) → bitAnd (getD p k 0) (255 - clearMask n k) ≡ bitAnd (getD q k 0) (255 - clearMask n k))
-    → SameBytes n p q
-bytes-same n p q hp hq e = record { bits = e; above = λ k. omega (arith, hp k, hq k) }
-
 module _ (n : Node) (p q : List ℕ) (s : SameBytes n p q) (kind : Kind) (is : n .kind ≡ kind) where
   -- every byte without status bits is the same
   pub byte-same : (k : ℕ) → statusByte kind k ≡ false → getD p k 0 ≡ getD q k 0

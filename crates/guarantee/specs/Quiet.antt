@@ -2,8 +2,8 @@
 -- shows is the first in document 01's order.
 -- Assumes nothing.
 use mathlib.Core.Path.{_≡_, refl, sym, ap, subst, _∙_}
-use mathlib.Core.Bool.{true, false, false≢true}
-use mathlib.Core.Logic.{_⊎_, inl, inr, ⊎-elim}
+use mathlib.Core.Bool.{true, false≢true}
+use mathlib.Core.Logic.{inl, inr, ⊎-elim}
 use mathlib.Core.List.{List, [], _∷_}
 use Prim.Native.Nat.{ℕ, zero, suc, _+_, _-_, _^_, _≤_, _<_}
 use native.Mathlib.Nat.{eq-or-lt-of-le}
@@ -24,6 +24,7 @@ use Rattle.routes_laws.specs.Takers.{OnBus}
 use Rattle.routes_laws.specs.Possible.{IsBus}
 use Rattle.overlap.specs.declared.Report.the-variants.{Pass, Fault}
 use Rattle.overlap.specs.Check.{shown, driven, driversOf, atValue, firstOf, inSpace, onBus, check}
+use Rattle.overlap.specs.StretchLaws.{fewer-shown}
 use Rattle.guarantee.specs.Firsts.{Each, FirstOf, each-map, in-passes, in-pass, from-passes, from-pass, in-first, from-first}
 
 -- the kinds of access in the order in which a bus is checked
@@ -50,12 +51,6 @@ module _ (t : Tree) (h : Range) (im : Images) where
   shown-quiet bus space a driver (x ∷ []) e = omega arith
   shown-quiet bus space a driver (x ∷ (y ∷ l)) e = let z : _≡_ {A = ℕ} 0 1 = cc in absurd (omega arith)
 
-  quiet-shown : (bus : ℕ) (space : Space) (a driver : ℕ) (l : List ℕ) → length l ≤ 1 → shown bus space a driver (firstTwo l) ≡ Pass
-  unfolding shown
-  quiet-shown bus space a driver [] e = refl
-  quiet-shown bus space a driver (x ∷ []) e = refl
-  quiet-shown bus space a driver (x ∷ (y ∷ l)) e = absurd (omega arith)
-
   at-quiet : (bus : ℕ) (space : Space) (a : ℕ) → atValue t h im bus space a ≡ Pass → QuietAt bus space a
   unfolding atValue
   at-quiet bus space a e =
@@ -68,7 +63,7 @@ module _ (t : Tree) (h : Range) (im : Images) where
   quiet-at bus space a q =
       in-pass (driven t h im bus space a) (driversOf t bus space)
       (each-map (Quiet bus space a) (λ d. driven t h im bus space a d ≡ Pass) (driversOf t bus space)
-      (λ d. quiet-shown bus space a d (claimants t h im space bus d a)) q)
+      (λ d. fewer-shown bus space a d (claimants t h im space bus d a)) q)
 
   -- the last value of a space is not below the first
   span : (space : Space) → firstOf space + (lastOf space + 1 - firstOf space) ≡ lastOf space + 1

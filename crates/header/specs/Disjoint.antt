@@ -90,11 +90,6 @@ unfolding regionWrite
 region-write-lt kind e k =
     cond-lt (eqb kind 0) (lit< tt) (cond-lt (ltb k 4) (mod-lt _ (lit< tt)) (cond-lt (eqb kind 3) (lit< tt) (lit< tt)))
 
-region-reset-lt : (kind k : ℕ) → regionReset kind k < 256
-unfolding regionReset
-region-reset-lt kind k =
-    cond-lt (eqb k 0) (cond-lt (eqb kind 1) (lit< tt) (cond-lt (eqb kind 3) (lit< tt) (lit< tt))) (lit< tt)
-
 module _ (n : Node) (at : ℕ) where
   -- the masks and the reset value of every byte of a node are bytes
   pub write-lt : writeMask n at < 256
@@ -104,11 +99,6 @@ module _ (n : Node) (at : ℕ) where
   pub clear-lt : clearMask n at < 256
   unfolding clearMask
   clear-lt = entry (n .kind) at .clear-byte
-
-  pub reset-lt : resetByte n at < 256
-  unfolding resetByte
-  reset-lt =
-      cond-lt (ltb at 4) (mod-lt _ (lit< tt)) (cond-lt (inRegion n at) (region-reset-lt _ _) (entry (n .kind) at .reset-byte))
 
   -- writing 1 clears no bit of a region
   pub region-clear : inRegion n at ≡ true → clearMask n at ≡ 0

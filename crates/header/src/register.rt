@@ -1,7 +1,7 @@
 // Register reads and writes on the 64 bytes of one node, which are lent out of the middle of their image.
 ghost use mathlib.Core.Path.{_≡_};
 ghost use lib.ListN.{getD};
-ghost use Rattle.header.specs.Register.{dwordOf, readRegister, writeByte, writeDword, writeRegister};
+ghost use Rattle.header.specs.Register.{dwordOf, readRegister, writeByte, writeRegister};
 use rack::Node;
 
 // The byte at a place, 0 past the end.

@@ -1,6 +1,6 @@
 // The size of a region, through the same register write that an access uses.
 ghost use mathlib.Core.Path.{_≡_};
-ghost use Prim.Native.Nat.{ℕ, _+_, _*_, _^_, _<_};
+ghost use Prim.Native.Nat.{_+_, _*_, _^_, _<_};
 ghost use mathlib.Core.Bool.{false};
 ghost use Rattle.rack.specs.Node.{isBridge};
 ghost use Rattle.header.specs.Sizing.{readBack, writtenBack, cleared, negated, regionRegister, sizePart};

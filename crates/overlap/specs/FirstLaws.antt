@@ -66,12 +66,6 @@ pub in-one : {A : Type 0} (f : A → Report) (x : A) → firstIn f (x ∷ []) �
 unfolding firstIn
 in-one f x = else-pass (f x)
 
--- a list whose members pass has no fault
-pub in-all : (f : ℕ → Report) (l : List ℕ) → All (λ x. f x ≡ Pass) l → firstIn f l ≡ Pass
-unfolding firstIn All
-in-all f [] h = refl
-in-all f (x ∷ l) h = rw (h .0) (in-all f l (h .1))
-
 module _ (t : Tree) (bus n i : ℕ) where
   -- of the nodes left, one on the bus is the first of those on it
   pub on-first : i < n → parentOf t i ≡ bus → nodesFrom t bus i (n - i) ≡ i ∷ nodesFrom t bus (i + 1) (n - (i + 1))

@@ -1,7 +1,7 @@
 -- Counting and searching below a number.
 -- Assumes nothing: these are definitions.
 use Prim.Native.Nat.{ℕ, zero, suc, _+_}
-use mathlib.Core.Bool.{Bool, true, false, _||_, cond}
+use mathlib.Core.Bool.{Bool, false, _||_, cond}
 
 -- how many numbers below n pass the test
 unfoldable pub countOf : (ℕ → Bool) → ℕ → ℕ

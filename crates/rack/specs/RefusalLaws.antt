@@ -1,7 +1,7 @@
 -- The turns of a loop that looks for the first faulty node.
 -- Assumes nothing.
 use mathlib.Core.Path.{_≡_}
-use Prim.Native.Nat.{ℕ, zero, suc, _+_, _-_, _≤_, _<_}
+use Prim.Native.Nat.{ℕ, _+_, _-_, _≤_, _<_}
 use borrow.Author.Tests.{eq-eqb, ne-eqb}
 use Rattle.rack.specs.declared.Node.{Node}
 use Rattle.rack.specs.CountLaws.{left-suc, left-none}

@@ -1,8 +1,9 @@
--- How a rack is stored for lending: two words for each of 96 nodes, eight bytes to a word. Nothing above names this.
+-- How a rack is stored for lending: two words for each of 96 nodes, eight bytes to a word. Contracts of code
+-- above name `treeOf` and `nodeAt`; the rest is for `table.rt` and `grow.rt` alone.
 -- Assumes nothing: these are definitions.
 use mathlib.Core.Path.{_≡_}
 use Prim.Native.Nat.{ℕ, _+_, _*_, _/_, _%_}
-use mathlib.Core.Bool.{Bool, true, false, cond}
+use mathlib.Core.Bool.{cond}
 use mathlib.Core.List.{List, [], _∷_}
 use lib.Dec.{ltb, eqb}
 use lib.ListN.{getD}

@@ -1,6 +1,6 @@
 // The table of a rack that is read node by node.
 ghost use mathlib.Core.Path.{_≡_};
-ghost use Prim.Native.Nat.{ℕ, _+_, _<_};
+ghost use Prim.Native.Nat.{_+_, _<_};
 ghost use Rattle.rack.specs.Table.{treeOf};
 ghost use Rattle.rack.specs.Grow.{noTree, grown};
 use crate::Node;

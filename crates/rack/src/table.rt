@@ -1,7 +1,7 @@
 // A rack as two words for each node, which is lent to everything below an open call: a rack by value would be copied at
 // every call.
 ghost use mathlib.Core.Path.{_≡_};
-ghost use Prim.Native.Nat.{ℕ, _+_, _/_, _%_, _<_};
+ghost use Prim.Native.Nat.{_+_, _/_, _%_, _<_};
 ghost use mathlib.Core.Bool.{cond};
 ghost use Rattle.rack.specs.Tree.{tree, bridgesBelow};
 ghost use Rattle.rack.specs.Node.{isBridge};
@@ -167,6 +167,7 @@ pub fn pick(yes: bool, a: u8, b: u8) -> u8
 {
     if yes { a } else { b }
 }
+
 // The table of a rack: each node with its place in its image, worked out once.
 pub fn table_of(rack: Rack) -> Table
     ensures { λ r. ⌜ treeOf (r .count) (r .words) ≡ tree rack ⌝ }

@@ -1,7 +1,7 @@
 -- The agents of a bus of an accepted rack: they are distinct, and at most 17.
 -- Assumes nothing.
-use mathlib.Core.Path.{_≡_, refl, sym, ap, _∙_}
-use mathlib.Core.Bool.{Bool, true, false, cond}
+use mathlib.Core.Path.{_≡_, sym, ap, _∙_}
+use mathlib.Core.Bool.{Bool}
 use mathlib.Core.List.{List, [], _∷_}
 use Prim.Native.Nat.{ℕ, zero, suc, _+_, _≤_, _<_}
 use native.Mathlib.Omega.{arith}
@@ -11,7 +11,7 @@ use borrow.Author.Tests.{eqb-true, eqb-false}
 use Rattle.rack.specs.Count.{countOf}
 use Rattle.rack.specs.CountLaws.{count-zero, count-step}
 use Rattle.rack.specs.Bools.{tested}
-use Rattle.rack.specs.Tree.{Tree, host, parentOf, nodesFrom, nodesOn, agents}
+use Rattle.rack.specs.Tree.{Tree, parentOf, nodesFrom, nodesOn, agents}
 use Rattle.rack.specs.Refusal.{rackRefusal}
 use Rattle.rack_laws.specs.Counts.{count-values}
 use Rattle.rack_laws.specs.Sound.{device-le, not-own, devices-differ}

@@ -1,17 +1,16 @@
 -- The depth of a bus in an accepted rack: the way up ends at the root, after at most 32 steps.
 -- Assumes nothing.
 use mathlib.Core.Path.{_≡_, refl, sym, ap, _∙_}
-use mathlib.Core.Bool.{Bool, true, false, cond, false≢true}
-use mathlib.Core.List.{List, [], _∷_}
+use mathlib.Core.Bool.{true, false≢true}
 use mathlib.Core.Logic.{⊎-elim}
-use Prim.Native.Nat.{ℕ, zero, suc, _+_, _≤_, _<_, max}
+use Prim.Native.Nat.{ℕ, zero, suc, _+_, _≤_, _<_}
 use native.Mathlib.Omega.{arith}
 use native.Mathlib.Numerals.{add-one}
 use lib.Dec.{eqb}
-use borrow.Author.Tests.{eq-eqb, ne-eqb, eqb-true, eqb-false}
+use borrow.Author.Tests.{ne-eqb, eqb-true, eqb-false}
 use Rattle.rack.specs.Node.{isBridge}
 use Rattle.rack.specs.Bools.{tested}
-use Rattle.rack.specs.Tree.{Tree, host, parentOf, bridgesBelow, bridgesFrom, buses, depthIn, depth, greatestOf, greatestDepth}
+use Rattle.rack.specs.Tree.{Tree, host, parentOf, bridgesBelow, bridgesFrom, depthIn, depth, greatestOf, greatestDepth}
 use Rattle.rack.specs.Refusal.{rackRefusal}
 use Rattle.rack_laws.specs.Counts.{count-mono, count-past}
 use Rattle.rack_laws.specs.Sound.{parent-is, bridges-le, not-host}

@@ -30,9 +30,6 @@ none-accepted = refl
 pub none-placed-by : PlacedBy noTree
 none-placed-by i h = absurd (not-suc-le-zero h)
 
-pub none-placed : Placed noTree
-none-placed = by-placed noTree none-placed-by
-
 -- the refusal of node i looks at no later node
 module _ (f g : ℕ → Node) (i : ℕ) (s : (j : ℕ) → j ≤ i → f j ≡ g j) where
   here : f i ≡ g i

@@ -2,12 +2,12 @@
 -- a rack is accepted exactly where none holds.
 -- Assumes nothing.
 use mathlib.Core.Path.{_≡_, refl, sym, ap, _∙_}
-use mathlib.Core.Bool.{Bool, true, false, cond, true≢false}
+use mathlib.Core.Bool.{Bool, true, false, true≢false}
 use mathlib.Core.List.{List, [], _∷_}
 use Prim.Native.Nat.{ℕ, zero, suc, _+_, _≤_, _<_}
 use native.Mathlib.Omega.{arith}
 use lib.Dec.{eqb, ltb, lit<}
-use borrow.Author.Tests.{eqb-true, eqb-false, eq-eqb, ne-eqb, ltb-true, ltb-false}
+use borrow.Author.Tests.{eqb-true, eqb-false, ltb-true, ltb-false}
 use Rattle.rack.specs.declared.Node.{Node}
 use Rattle.rack.specs.Tree.{Tree}
 use Rattle.rack.specs.Refusal.{tooMany, badParent, highDevice, takenDevice, badRegion, nodeRefusal, refusalFrom, rackRefusal}

@@ -24,10 +24,6 @@ pub size-least : (kind : ℕ) → 1 ≤ sizeOf kind
 unfolding sizeOf
 size-least kind = omega arith
 
-pub size-most : (kind : ℕ) → sizeOf kind ≤ 17
-unfolding sizeOf
-size-most kind = omega (arith, body-most kind)
-
 -- a kind past 8 stands for itself alone
 pub size-none : (kind : ℕ) → 9 ≤ kind → sizeOf kind ≡ 1
 unfolding sizeOf

@@ -1,13 +1,13 @@
 -- Refusal 6 by the count of bridges alone.
 -- Assumes nothing.
 use mathlib.Core.Path.{_≡_, sym, ap, _∙_}
-use mathlib.Core.Bool.{Bool, true, false, not, cond}
+use mathlib.Core.Bool.{Bool, true, false}
 use Prim.Native.Nat.{ℕ, _-_}
 use lib.Dec.{leb}
 use Rattle.rack.specs.declared.Node.{Node}
 use Rattle.rack.specs.Node.{isBridge}
 use Rattle.rack.specs.TreeLaws.{devices-left}
-use Rattle.rack.specs.Tree.{bridgesBelow, devicesBelow}
+use Rattle.rack.specs.Tree.{bridgesBelow}
 use Rattle.rack.specs.Refusal.{tooMany}
 
 module _ (node : ℕ → Node) (i : ℕ) {k : ℕ} {n : Node} {b : Bool} (ek : k ≡ bridgesBelow node i) (en : n ≡ node i)

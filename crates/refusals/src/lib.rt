@@ -1,15 +1,10 @@
 // Refusals 6 to 10 of a decoded rack: node by node, the lowest number within a node.
 ghost use mathlib.Core.Path.{_≡_};
-ghost use mathlib.Core.Bool.{cond};
-ghost use Prim.Native.Nat.{ℕ};
-ghost use Rattle.rack.specs.Tree.{tree};
 ghost use Rattle.rack.specs.Table.{nodeAt, treeOf};
 ghost use Rattle.rack.specs.Refusal.{tooMany, badParent, highDevice, sameSlot, takenDevice, regionRange, regionsRange, badRegion, nodeRefusal, rackRefusal};
 use rack::Node;
-use rack::Rack;
 use rack::table::bridges_below;
 use rack::table::node_at;
-use rack::table::table_of;
 
 // 6
 fn too_many(words: &[u64; 192], i: usize) -> bool
@@ -127,12 +122,4 @@ pub fn refusal_of(words: &[u64; 192], count: u8) -> u8
         i += 1;
     }
     0
-}
-
-// The refusal of a decoded rack, whatever it holds; 0 where there is none.
-pub fn rack_refusal(rack: Rack) -> u8
-    ensures { λ r. ⌜ r ≡ rackRefusal (tree rack) ⌝ }
-{
-    let t = table_of(rack);
-    refusal_of(&t.words, t.count)
 }

@@ -1,7 +1,7 @@
 -- The size of a region of a node of a rack.
 -- Assumes nothing: these are definitions.
 use Prim.Native.Nat.{ℕ}
-use mathlib.Core.Bool.{Bool, true, false, cond}
+use mathlib.Core.Bool.{cond}
 use lib.Dec.{ltb}
 use Rattle.rack.specs.Node.{isBridge, regionIn}
 use Rattle.rack.specs.Tree.{Tree}

@@ -1,6 +1,6 @@
 // The size of a region of a node, whose part is lent out of the middle of its image.
 ghost use mathlib.Core.Path.{_≡_};
-ghost use Prim.Native.Nat.{ℕ, _<_};
+ghost use Prim.Native.Nat.{_<_};
 ghost use mathlib.Core.Bool.{false};
 ghost use Rattle.rack.specs.Node.{isBridge};
 ghost use Rattle.rack.specs.Table.{treeOf};

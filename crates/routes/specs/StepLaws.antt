@@ -131,10 +131,3 @@ module _ (t : Tree) (h : Range) (x : Access) where
       → crossingsOf (busStep (left + left + 1) t h x im bus driver type0 .ending) ≤ left
   bus-le left im bus driver type0 =
       let p : left + left + 1 ≡ suc (left + left) = omega arith in rw p (step-le left im bus driver type0)
-
-  -- the same of a bridge, which is one more
-  pub bridge-le : (left : ℕ) (im : Images) (bus g : ℕ)
-      → crossingsOf (bridgeStep (left + left + 2) t h x im bus g .ending) ≤ left + 1
-  bridge-le left im bus g =
-      rw (bridge-on t h x im bus g left)
-      (crossed-le t _ x bus g left _ (bus-le left im (otherBus t bus g) g (turnsType0 t im x bus g)))

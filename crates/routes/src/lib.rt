@@ -1,2 +1,3 @@
-// Where an access goes, up and down the tree, and what it leaves in the status registers: the cycle of the two steps of `steps`.
+// Where an access goes, up and down the tree, and what it leaves in the status registers: the cycle of the steps of `steps` and
+// `crossing`.
 pub mod route;

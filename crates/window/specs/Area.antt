@@ -1,12 +1,11 @@
 -- The addresses of a device's region, decoded from its registers.
 -- Assumes nothing: these are definitions.
-use Prim.Native.Nat.{ℕ, _+_, _-_, _*_, _/_, _^_}
-use mathlib.Core.Bool.{Bool, true, false, not, _&&_, _||_, cond}
+use Prim.Native.Nat.{ℕ, _+_, _*_, _/_, _^_}
+use mathlib.Core.Bool.{Bool, not, _&&_, _||_, cond}
 use mathlib.Core.List.{List}
 use lib.Dec.{ltb, eqb}
 use Rattle.header.specs.Register.{dwordAt}
 use Rattle.header.specs.Sizing.{regionRegister}
-use Rattle.window.specs.declared.Range.{Range}
 use Rattle.window.specs.declared.Area.{Area}
 use Rattle.window.specs.Range.{range, empty, within, window}
 

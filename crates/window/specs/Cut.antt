@@ -1,7 +1,7 @@
 -- How far upwards a test on an address keeps its answer: `cut .. a e` brings an end e down so that it has one answer from a to it.
 -- Assumes nothing: these are definitions.
 use Prim.Native.Nat.{ℕ, _+_, _-_, _%_}
-use mathlib.Core.Bool.{Bool, true, false, _||_, cond}
+use mathlib.Core.Bool.{Bool, _||_, cond}
 use lib.Dec.{leb, ltb}
 use Rattle.window.specs.declared.Range.{Range}
 

@@ -1,8 +1,8 @@
 -- 01: 'A bridge's windows answer yes or no for an address', and how far the answer stays the same.
 -- Assumes nothing: these are definitions.
 use Prim.Native.Nat.{ℕ, _/_, _%_}
-use mathlib.Core.Bool.{Bool, true, false, not, _&&_, _||_}
-use lib.Dec.{leb, ltb, eqb}
+use mathlib.Core.Bool.{Bool, not, _&&_, _||_}
+use lib.Dec.{ltb, eqb}
 use Rattle.window.specs.declared.Range.{Range}
 use Rattle.window.specs.declared.Windows.{Windows}
 use Rattle.window.specs.Range.{range, within}

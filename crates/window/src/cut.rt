@@ -1,6 +1,6 @@
 // How far upwards a test on an address keeps its answer: each function brings an end e down.
 ghost use mathlib.Core.Path.{_≡_};
-ghost use Prim.Native.Nat.{ℕ, _+_, _≤_, _<_};
+ghost use Prim.Native.Nat.{_+_, _<_};
 ghost use Rattle.window.specs.Range.{within};
 ghost use Rattle.window.specs.Cut.{cutAt, cutPast, cutRange, cutIf, cutLow};
 use crate::Range;
