@@ -17,7 +17,7 @@ zeros = 0 ∷ 0 ∷ 0 ∷ 0 ∷ 0 ∷ 0 ∷ 0 ∷ 0 ∷ []
 abbrev pub eight : ℕ → List ℕ → List ℕ
 eight number values = take 8 (number ∷ (values ++ zeros))
 
--- 0, or the refusal's number
+-- 01: 'and return the number'; 0 where nothing is refused
 abbrev pub codeOf : Answer → ℕ
 codeOf (Refused n) = n
 codeOf (Ended e) = 0

@@ -7,7 +7,7 @@ use Prim.Native.Nat.{ℕ, _^_, _≤_, _<_}
 use native.Mathlib.Omega.{arith}
 use lib.Dec.{ltb, eqb}
 use borrow.Author.Tests.{eqb-true, eqb-false, eq-eqb, ne-eqb, ltb-true}
-use Rattle.rack.specs.Bools.{tested, both, neither}
+use Rattle.rack.specs.Bools.{tested, opposite, both, neither}
 use Rattle.rack.specs.Node.{isBridge}
 use Rattle.rack.specs.Tree.{Tree, host}
 use Rattle.rack.specs.Refusal.{rackRefusal}
@@ -92,11 +92,7 @@ module _ (t : Tree) where
       by false q =
           let s : ltb i (t .count) && not (isBridge (t .node i .kind)) ≡ true = rw q at on in
           let r = both (ltb i (t .count)) _ s in
-          inr (ltb-true i (t .count) (r .0), is (isBridge (t .node i .kind)) (r .1))
-        where
-          is : (b : Bool) → not b ≡ true → b ≡ false
-          is true n = sym n
-          is false n = refl
+          inr (ltb-true i (t .count) (r .0), opposite (isBridge (t .node i .kind)) (r .1))
 
 module _ (t : Tree) (h : Range) (im im' : Images) (pass : checkIn t h im ≡ Checked Pass) (same : SameButStatus t im im') where
   run-agrees : (e : Event) → Fits e → rackRefusal t ≡ 0 → eventWrong t e ≡ false → check t h im ≡ Pass

@@ -45,7 +45,7 @@ eventsAt b o = eventsUpTo (length b) b o
 abbrev pub blank : Tree → Images
 blank t = images (replicate (64 * bridgeCount t) 0) (replicate (64 * deviceCount t) 0)
 
--- where a run begins: at an offset, with number 1
+-- where a run begins: at its first event's offset. 01: 'A line holds the event number from 1'
 abbrev pub firstAt : ℕ → Cursor
 firstAt o = record { offset = o; number = 1 }
 

@@ -1,7 +1,7 @@
 -- Tests and what they tell.
 -- Assumes nothing.
 use mathlib.Core.Path.{_≡_, refl}
-use mathlib.Core.Bool.{Bool, true, false, _&&_, _||_, true≢false, false≢true}
+use mathlib.Core.Bool.{Bool, true, false, not, _&&_, _||_, true≢false, false≢true}
 use mathlib.Core.Logic.{_⊎_, inl, inr}
 
 -- a test with the equation that it passes or fails
@@ -13,6 +13,11 @@ tested false t f = f refl
 pub not-fails : (b : Bool) → (b ≡ false → ⊥) → b ≡ true
 not-fails true n = refl
 not-fails false n = absurd (n refl)
+
+-- a test whose opposite passes fails
+pub opposite : (b : Bool) → not b ≡ true → b ≡ false
+opposite true e = absurd (false≢true e)
+opposite false e = refl
 
 pub either : (a b : Bool) → a || b ≡ true → (a ≡ true) ⊎ (b ≡ true)
 either true b e = inl refl

@@ -1,6 +1,6 @@
 -- What acceptance says of the nodes of a rack.
 -- Assumes nothing.
-use mathlib.Core.Path.{_≡_, refl, sym, _∙_}
+use mathlib.Core.Path.{_≡_, sym, _∙_}
 use mathlib.Core.Bool.{Bool, true, false, not, _&&_, true≢false}
 use mathlib.Core.Logic.{_⊎_, inl, inr, ⊎-elim}
 use Prim.Native.Nat.{ℕ, _≤_, _<_}
@@ -10,7 +10,7 @@ use lib.Dec.{ltb, eqb}
 use borrow.Author.Tests.{eqb-true, eq-eqb, ltb-true, ltb-false, leb-false, not-false}
 use Rattle.rack.specs.Node.{isBridge}
 use Rattle.rack.specs.CountLaws.{count-both}
-use Rattle.rack.specs.Bools.{tested, either, both}
+use Rattle.rack.specs.Bools.{tested, opposite, either, both}
 use Rattle.rack.specs.Search.{none}
 use Rattle.rack.specs.Tree.{Tree, host, parentOf, bridgesBelow, devicesBelow, bridgeCount, deviceCount}
 use Rattle.rack.specs.Refusal.{tooMany, badParent, highDevice, sameSlot, takenDevice, badRegion, rackRefusal}
@@ -61,11 +61,7 @@ module _ (t : Tree) (ok : rackRefusal t ≡ 0) (i : ℕ) (h : i < t .count) wher
 
   few-devices : not (isBridge (t .node i .kind)) ≡ true → devicesBelow (t .node) i < 64
   unfolding tooMany
-  few-devices b = leb-false 64 (devicesBelow (t .node) i) (rw (turned (isBridge (t .node i .kind)) b) at few)
-    where
-      turned : (b : Bool) → not b ≡ true → b ≡ false
-      turned true e = sym e
-      turned false e = refl
+  few-devices b = leb-false 64 (devicesBelow (t .node) i) (rw (opposite (isBridge (t .node i .kind)) b) at few)
 
   -- an earlier node on the same bus has another device number
   pub slots-differ : (j : ℕ) → j < i → parentOf t j ≡ parentOf t i → t .node j .device ≡ t .node i .device → ⊥
