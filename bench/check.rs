@@ -6,7 +6,7 @@ use table::{best, u16_at, u32_at, Node, Rack};
 
 extern "C" {
     fn bench_check(
-        words: *const u64, count: u8, bridges: *const u8, bridges_len: usize, devices: *const u8, devices_len: usize, rounds: u8,
+        table: *const u64, bridges: *const u8, bridges_len: usize, devices: *const u8, devices_len: usize, rounds: u8,
     ) -> u64;
 }
 
@@ -219,8 +219,7 @@ fn set(mut r: Rack, isa: bool, faulty: bool) -> Rack {
 
 fn measure(name: &str, r: Rack) {
     let rounds = 100u8;
-    let words = r.words();
-    let count = r.nodes.len() as u8;
+    let table = r.table();
     let (bridges, devices) = (r.bridges.clone(), r.devices.clone());
     let mut plain = Plain(r);
     let (slow, a) = best(|| {
@@ -232,7 +231,7 @@ fn measure(name: &str, r: Rack) {
         v
     });
     let (proved, c) = best(|| unsafe {
-        bench_check(words.as_ptr(), count, bridges.as_ptr(), bridges.len(), devices.as_ptr(), devices.len(), rounds)
+        bench_check(table.as_ptr(), bridges.as_ptr(), bridges.len(), devices.as_ptr(), devices.len(), rounds)
     });
     assert_eq!(a, c, "the two answers differ: {name}");
     let us = 1e6 / rounds as f64;

@@ -5,7 +5,7 @@ use table::{best, u16_at, u32_at, Rack};
 
 extern "C" {
     fn bench_route(
-        words: *const u64, count: u8, bridges: *mut u8, bridges_len: usize, devices: *mut u8, devices_len: usize,
+        table: *const u64, bridges: *mut u8, bridges_len: usize, devices: *mut u8, devices_len: usize,
         initiator: u8, address: u64, rounds: u16,
     ) -> u64;
 }
@@ -93,13 +93,13 @@ fn main() {
     println!("a memory read over        proved ns  plain Rust ns  ratio");
     for deep in [1usize, 8, 32] {
         let r = rack(deep);
-        let words = r.words();
+        let table = r.table();
         let (mut bridges, mut devices) = (r.bridges.clone(), r.devices.clone());
         let plain = Plain(r);
         let address = std::hint::black_box(0x8000_0010);
         let (slow, a) = best(|| (0..rounds).fold(0, |_, _| std::hint::black_box(&plain).bus(255, 255, address)));
         let (proved, c) = best(|| unsafe {
-            bench_route(words.as_ptr(), 96, bridges.as_mut_ptr(), 2048, devices.as_mut_ptr(), 4096, 255, address, rounds)
+            bench_route(table.as_ptr(), bridges.as_mut_ptr(), 2048, devices.as_mut_ptr(), 4096, 255, address, rounds)
         });
         assert_eq!(a, c, "the two answers differ over {deep} bridges");
         let ns = 1e9 / rounds as f64;

@@ -45,16 +45,23 @@ impl Rack {
         &image[64 * n.place..64 * n.place + 64]
     }
 
-    pub fn words(&self) -> Vec<u64> {
-        let mut w = vec![0u64; 192];
+    // as `rack::table` holds it; without host memory
+    pub fn table(&self) -> Vec<u64> {
+        let mut w = vec![0u64; 195];
+        let mut depths = [0u64; 256];
+        let mut deepest = 0;
         for (i, n) in self.nodes.iter().enumerate() {
+            depths[i] = depths[n.parent as usize] + 1;
+            if n.bridge { deepest = depths[i].max(deepest) }
             let low = [
                 if n.bridge { 2 } else { 3 }, n.parent, n.number, n.place as u8,
                 n.regions[0].0, n.regions[0].1, n.regions[1].0, n.regions[1].1,
             ];
             w[2 * i] = u64::from_le_bytes(low);
-            w[2 * i + 1] = n.regions[2].0 as u64 | (n.regions[2].1 as u64) << 8;
+            w[2 * i + 1] = n.regions[2].0 as u64 | (n.regions[2].1 as u64) << 8 | depths[i] << 48;
         }
+        w[192] = 1;
+        w[194] = self.nodes.len() as u64 | deepest << 8;
         w
     }
 }

@@ -3,10 +3,10 @@
 use Prim.Native.Nat.{ℕ}
 use mathlib.Core.List.{List, [], _∷_, _++_}
 use lib.ListN.{take}
-use Rattle.steps.specs.Ending.{endingNumber, endingValues}
-use Rattle.overlap.specs.Report.{reportNumber, reportValues}
 use Rattle.simulator.specs.declared.Answer.{Answer}
-use Rattle.simulator.specs.declared.Answer.the-variants.{Refused, Ended, Checked}
+use Rattle.simulator.specs.Answers.{answerNumber, answerValues}
+use Rattle.calls.specs.declared.Reply.{Reply}
+use Rattle.calls.specs.declared.Reply.the-variants as reply
 use Rattle.calls.specs.declared.Bounds.{Bounds}
 use Rattle.calls.specs.declared.Bounds.the-variants as bounds
 
@@ -17,17 +17,18 @@ zeros = 0 ∷ 0 ∷ 0 ∷ 0 ∷ 0 ∷ 0 ∷ 0 ∷ 0 ∷ []
 abbrev pub eight : ℕ → List ℕ → List ℕ
 eight number values = take 8 (number ∷ (values ++ zeros))
 
--- 01: 'and return the number'; 0 where nothing is refused
-abbrev pub codeOf : Answer → ℕ
-codeOf (Refused n) = n
-codeOf (Ended e) = 0
-codeOf (Checked r) = 0
-
--- the answer's number and the fields of its line
+-- an answer's number and the fields of its line
 abbrev pub numbersOf : Answer → List ℕ
-numbersOf (Refused n) = zeros
-numbersOf (Ended e) = eight (endingNumber e) (endingValues e)
-numbersOf (Checked r) = eight (reportNumber r) (reportValues r)
+numbersOf a = eight (answerNumber a) (answerValues a)
+
+-- 01: 'and return the number'; 0 where nothing is refused
+abbrev pub codeOf : Reply → ℕ
+codeOf (reply.Refused n) = n
+codeOf (reply.Answered a) = 0
+
+abbrev pub replyNumbers : Reply → List ℕ
+replyNumbers (reply.Refused n) = zeros
+replyNumbers (reply.Answered a) = numbersOf a
 
 -- both ends of a window or region: 1, the first and the last address; 0 where it is empty
 abbrev pub endsCode : Bounds → ℕ

@@ -1,15 +1,17 @@
 // An answer as eight numbers: its own, its values, and zeros behind them.
 ghost use mathlib.Core.Path.{_≡_};
 ghost use mathlib.Core.List.{[], _∷_};
-ghost use Rattle.steps.specs.Ending.{outcomeNumber, endingNumber, endingValues};
+ghost use Rattle.steps.specs.Outcome.{outcomeNumber};
+ghost use Rattle.simulator.specs.Answers.{endingNumber, endingValues};
 ghost use Rattle.overlap.specs.Report.{reportNumber, reportValues};
-ghost use Rattle.answers.specs.Numbers.{eight, zeros, codeOf, numbersOf, endsCode, endsNumbers};
+ghost use Rattle.answers.specs.Numbers.{eight, zeros, numbersOf, codeOf, replyNumbers, endsCode, endsNumbers};
 ghost use Rattle.claims.specs.Space.{spaceNumber};
 use calls::Bounds;
+use calls::Reply;
 use claims::Space;
 use overlap::Report;
 use simulator::Answer;
-use steps::Ending;
+use simulator::Ending;
 use steps::Outcome;
 
 fn put_eight(answer: &mut [u64; 8], number: u64, a: u64, b: u64, c: u64, d: u64, e: u64, f: u64)
@@ -46,40 +48,23 @@ fn space_number(s: Space) -> u64
     }
 }
 
-fn put_ending(answer: &mut [u64; 8], e: Ending)
-    ensures { λ _. ⌜ now (answer .exit) ≡ eight (endingNumber e) (endingValues e) ⌝ }
+fn put_ending(answer: &mut [u64; 8], crossings: u32, e: Ending)
+    ensures { λ _. ⌜ now (answer .exit) ≡ eight (endingNumber e) (endingValues crossings e) ⌝ }
 {
+    let crossed = crossings as u64;
     match e {
-        Ending::Data { crossings, value } => {
-            put_eight(answer, 1, crossings as u64, value as u64, 0, 0, 0, 0)
-        }
-        Ending::Stored { crossings } => put_eight(answer, 2, crossings as u64, 0, 0, 0, 0, 0),
+        Ending::Data { value } => put_eight(answer, 1, crossed, value as u64, 0, 0, 0, 0),
+        Ending::Stored => put_eight(answer, 2, crossed, 0, 0, 0, 0, 0),
         Ending::Owner {
-            crossings,
             node,
             region,
             offset,
-        } => put_eight(
-            answer,
-            3,
-            crossings as u64,
-            node as u64,
-            region as u64,
-            offset,
-            0,
-            0,
-        ),
-        Ending::Host { crossings, offset } => {
-            put_eight(answer, 4, crossings as u64, offset, 0, 0, 0, 0)
-        }
-        Ending::Unclaimed {
-            crossings,
-            holder,
-            outcome,
-        } => put_eight(
+        } => put_eight(answer, 3, crossed, node as u64, region as u64, offset, 0, 0),
+        Ending::Host { offset } => put_eight(answer, 4, crossed, offset, 0, 0, 0, 0),
+        Ending::Unclaimed { holder, outcome } => put_eight(
             answer,
             5,
-            crossings as u64,
+            crossed,
             holder as u64,
             outcome_number(outcome),
             0,
@@ -87,14 +72,13 @@ fn put_ending(answer: &mut [u64; 8], e: Ending)
             0,
         ),
         Ending::Clash {
-            crossings,
             holder,
             first,
             second,
         } => put_eight(
             answer,
             6,
-            crossings as u64,
+            crossed,
             holder as u64,
             first as u64,
             second as u64,
@@ -130,18 +114,24 @@ fn put_report(answer: &mut [u64; 8], r: Report)
     }
 }
 
-// The numbers of an answer; 0, or the refusal's number.
-pub fn put_answer(answer: &mut [u64; 8], a: Answer) -> u8
-    ensures { λ r. ⌜ (r ≡ codeOf a) × (now (answer .exit) ≡ numbersOf a) ⌝ }
+// The numbers of an answer.
+fn put_answer(answer: &mut [u64; 8], a: Answer)
+    ensures { λ _. ⌜ now (answer .exit) ≡ numbersOf a ⌝ }
 {
     match a {
-        Answer::Refused(n) => refuse(answer, n),
-        Answer::Ended(e) => {
-            put_ending(answer, e);
-            0
-        }
-        Answer::Checked(r) => {
-            put_report(answer, r);
+        Answer::Ended { crossings, ending } => put_ending(answer, crossings, ending),
+        Answer::Checked(r) => put_report(answer, r),
+    }
+}
+
+// The numbers of a reply; 0, or the refusal's number.
+pub fn put_reply(answer: &mut [u64; 8], r: Reply) -> u8
+    ensures { λ s. ⌜ (s ≡ codeOf r) × (now (answer .exit) ≡ replyNumbers r) ⌝ }
+{
+    match r {
+        Reply::Refused(n) => refuse(answer, n),
+        Reply::Answered(a) => {
+            put_answer(answer, a);
             0
         }
     }

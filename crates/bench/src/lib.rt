@@ -1,50 +1,33 @@
 // What the benchmarks call, over a table and two images: one memory read, one check. No contract beyond safety; no open call.
-ghost use mathlib.Core.Path.{_≡_};
-ghost use Rattle.rack.specs.Table.{treeOf};
-ghost use Rattle.rack.specs.Refusal.{rackRefusal};
 use claims::Space;
 use overlap::Report;
+use rack::table::Table;
 use steps::Access;
-use steps::Ending;
-use window::Range;
+use steps::End;
+use steps::Route;
 
-fn crossings_of(e: Ending) -> u64 {
-    match e {
-        Ending::Data { crossings, value } => crossings as u64,
-        Ending::Stored { crossings } => crossings as u64,
-        Ending::Owner {
-            crossings,
-            node,
-            region,
-            offset,
-        } => crossings as u64 + 1000 * (node as u64 + 1),
-        Ending::Host { crossings, offset } => crossings as u64,
-        Ending::Unclaimed {
-            crossings,
-            holder,
-            outcome,
-        } => crossings as u64,
-        Ending::Clash {
-            crossings,
-            holder,
-            first,
-            second,
-        } => crossings as u64,
-        Ending::Silent => 999,
-    }
+// The crossings of a route, plus 1000 times the owner's number plus one where it has an owner.
+fn shown_of(r: Route) -> u64 {
+    let crossings = r.crossings as u64;
+    let end = r.end;
+    let End::Owner {
+        node,
+        region,
+        offset,
+    } = end
+    else {
+        return crossings;
+    };
+    crossings + 1000 * (node as u64 + 1)
 }
 
 fn read_once(
-    words: &[u64; 192],
-    count: u8,
+    table: &Table,
     bridges: &mut [u8],
     devices: &mut [u8],
     initiator: u8,
     address: u64,
-) -> u64
-    requires { ⌜ rackRefusal (treeOf count (now words)) ≡ 0 ⌝ }
-{
-    let host = Range { first: 1, last: 0 };
+) -> u64 {
     let space = Space::Memory;
     let x = Access {
         space,
@@ -55,15 +38,14 @@ fn read_once(
         enables: 0,
         data: 0,
     };
-    crossings_of(routes::route::route_access(words, count, bridges, devices, host, x, initiator))
+    shown_of(routes::route::route_access(table, bridges, devices, x, initiator))
 }
 
 // A memory read of a rack that is accepted, as often as asked for: its crossings, plus 1000 times the owner's number plus one where it
 // has an owner; all ones where the rack is not accepted.
 #[no_mangle]
 pub extern "C" fn bench_route(
-    words: &[u64; 192],
-    count: u8,
+    table: &Table,
     bridges: &mut [u8],
     devices: &mut [u8],
     initiator: u8,
@@ -71,12 +53,12 @@ pub extern "C" fn bench_route(
     rounds: u16,
 ) -> u64 {
     let mut shown: u64 = 0xFFFF_FFFF_FFFF_FFFF;
-    if refusals::refusal_of(words, count) != 0 {
+    if refusals::refusal_of(table) != 0 {
         return shown;
     }
     let mut i: u16 = 0;
     while i < rounds {
-        shown = read_once(words, count, bridges, devices, initiator, address);
+        shown = read_once(table, bridges, devices, initiator, address);
         i += 1;
     }
     shown
@@ -100,20 +82,18 @@ fn value_of(r: Report) -> u64 {
 // The check of a rack that is accepted, as often as asked for; all ones where it is not accepted.
 #[no_mangle]
 pub extern "C" fn bench_check<'a>(
-    words: &[u64; 192],
-    count: u8,
+    table: &Table,
     bridges: &'a [u8],
     devices: &'a [u8],
     rounds: u8,
 ) -> u64 {
-    let host = Range { first: 1, last: 0 };
     let mut shown: u64 = 0xFFFF_FFFF_FFFF_FFFF;
-    if refusals::refusal_of(words, count) != 0 {
+    if refusals::refusal_of(table) != 0 {
         return shown;
     }
     let mut i: u8 = 0;
     while i < rounds {
-        shown = value_of(checks::buses::check_rack(words, count, bridges, devices, host));
+        shown = value_of(checks::buses::check_rack(table, bridges, devices));
         i += 1;
     }
     shown

@@ -1,7 +1,7 @@
 // The calls, each with its answer as eight numbers; what is returned is 0 or the refusal's number.
 use crate::asked::Asked;
-use answers::put_answer;
 use answers::put_ends;
+use answers::put_reply;
 use calls::Number;
 use open_calls::read_register;
 use open_calls::run_check;
@@ -47,13 +47,13 @@ pub fn make(
         return put_ends(answer, window_ends(rack, bridges, devices, a.node, a.index));
     }
     if a.operation == 6 {
-        return put_answer(
+        return put_reply(
             answer,
             run_event(rack, bridges, devices, event_in(event, 0)),
         );
     }
     if a.operation == 7 {
-        return put_answer(answer, run_check(rack, bridges, devices));
+        return put_reply(answer, run_check(rack, bridges, devices));
     }
     0
 }

@@ -4,6 +4,14 @@ pub mod nodes;
 pub mod refusal;
 pub mod runs;
 
+use simulator::Answer;
+
+// The answer to an event, or the refusal's number.
+pub enum Reply {
+    Refused(u8),
+    Answered(Answer),
+}
+
 // A number that was asked for, or the refusal's number.
 pub enum Number {
     Refused(u8),

@@ -2,37 +2,40 @@
 ghost use mathlib.Core.Path.{_≡_};
 ghost use Rattle.rack.specs.Table.{treeOf};
 ghost use Rattle.registers.specs.Image.{images};
-ghost use Rattle.calls.specs.Call.{refusalBy, readIn, storeWrong, storedIn, viewIn, sizeIn, boundsOf, boundsIn};
+ghost use Rattle.calls.specs.Call.{refusalBy, readIn, storeRefusal, storedIn, viewIn, sizeIn, boundsOf, boundsIn};
 use crate::Bounds;
 use crate::Number;
+use crate::refusal::read_refusal;
 use crate::refusal::refusal_by;
-use crate::refusal::region_wrong;
+use crate::refusal::region_refusal;
+use crate::refusal::store_refusal;
+use crate::refusal::view_refusal;
+use crate::refusal::window_refusal;
 use claims::Ends;
+use rack::table::Table;
 
 // A dword of a node's registers.
 pub fn read_on<'a>(
-    words: &[u64; 192],
-    count: u8,
+    table: &Table,
     bridges: &'a [u8],
     devices: &'a [u8],
     node: u8,
     register: u8,
 ) -> Number
-    ensures { λ r. ⌜ r ≡ readIn (treeOf count (now (words .entry))) (images (now (bridges .entry)) (now (devices .entry))) node register ⌝ }
+    ensures { λ r. ⌜ r ≡ readIn (treeOf (now (table .entry))) (images (now (bridges .entry)) (now (devices .entry))) node register ⌝ }
 {
-    let wrong = (count <= node) | !(register % 4 == 0);
-    let refusal = refusal_by(words, count, bridges, devices, wrong);
+    let own = read_refusal(table, node, register);
+    let refusal = refusal_by(table, bridges, devices, own);
     if refusal != 0 {
         return Number::Refused(refusal);
     }
-    let part = registers::image::view_of(words, count, bridges, devices, node);
+    let part = registers::image::view_of(table, bridges, devices, node);
     Number::Value(header::register::read_register(part, register) as u64)
 }
 
 // A register write of a node; the refusal's number, 0 where it is accepted.
 pub fn write_on(
-    words: &[u64; 192],
-    count: u8,
+    table: &Table,
     bridges: &mut [u8],
     devices: &mut [u8],
     node: u8,
@@ -40,51 +43,45 @@ pub fn write_on(
     enables: u8,
     put: u32,
 ) -> u8
-    ensures { λ r. ⌜ (r ≡ refusalBy (treeOf count (now (words .entry))) (images (now (bridges .entry)) (now (devices .entry))) (storeWrong (treeOf count (now (words .entry))) node register enables)) × (images (now (bridges .exit)) (now (devices .exit)) ≡ storedIn (treeOf count (now (words .entry))) (images (now (bridges .entry)) (now (devices .entry))) node register enables put) ⌝ }
+    ensures { λ r. ⌜ (r ≡ refusalBy (treeOf (now (table .entry))) (images (now (bridges .entry)) (now (devices .entry))) (storeRefusal (treeOf (now (table .entry))) node register enables)) × (images (now (bridges .exit)) (now (devices .exit)) ≡ storedIn (treeOf (now (table .entry))) (images (now (bridges .entry)) (now (devices .entry))) node register enables put) ⌝ }
 {
-    let wrong = (count <= node) | (!(register % 4 == 0) | (15 < enables));
-    let number = refusal_by(words, count, bridges, devices, wrong);
+    let own = store_refusal(table, node, register, enables);
+    let number = refusal_by(table, bridges, devices, own);
     if number != 0 {
         return number;
     }
-    registers::image::write_node(words, count, bridges, devices, node, register, enables, put);
+    registers::image::write_node(table, bridges, devices, node, register, enables, put);
     0
 }
 
 // The register view: the 64 bytes of a node; an empty part where the call is refused.
-pub fn view_on<'a>(
-    words: &[u64; 192],
-    count: u8,
-    bridges: &'a [u8],
-    devices: &'a [u8],
-    node: u8,
-) -> &'a [u8]
-    ensures { λ r. ⌜ now r ≡ viewIn (treeOf count (now (words .entry))) (images (now (bridges .entry)) (now (devices .entry))) node ⌝ }
+pub fn view_on<'a>(table: &Table, bridges: &'a [u8], devices: &'a [u8], node: u8) -> &'a [u8]
+    ensures { λ r. ⌜ now r ≡ viewIn (treeOf (now (table .entry))) (images (now (bridges .entry)) (now (devices .entry))) node ⌝ }
 {
-    let refusal = refusal_by(words, count, bridges, devices, count <= node);
+    let own = view_refusal(table, node);
+    let refusal = refusal_by(table, bridges, devices, own);
     if refusal != 0 {
         return &bridges[0..0];
     }
-    registers::image::view_of(words, count, bridges, devices, node)
+    registers::image::view_of(table, bridges, devices, node)
 }
 
 // The size of a device's region, found by writing all ones; both images are then what they were.
 pub fn size_on(
-    words: &[u64; 192],
-    count: u8,
+    table: &Table,
     bridges: &mut [u8],
     devices: &mut [u8],
     node: u8,
     region: u8,
 ) -> Number
-    ensures { λ r. ⌜ (r ≡ sizeIn (treeOf count (now (words .entry))) (images (now (bridges .entry)) (now (devices .entry))) node region) × (images (now (bridges .exit)) (now (devices .exit)) ≡ images (now (bridges .entry)) (now (devices .entry))) ⌝ }
+    ensures { λ r. ⌜ (r ≡ sizeIn (treeOf (now (table .entry))) (images (now (bridges .entry)) (now (devices .entry))) node region) × (images (now (bridges .exit)) (now (devices .exit)) ≡ images (now (bridges .entry)) (now (devices .entry))) ⌝ }
 {
-    let wrong = region_wrong(words, count, node, region);
-    let refusal = refusal_by(words, count, bridges, devices, wrong);
+    let own = region_refusal(table, node, region);
+    let refusal = refusal_by(table, bridges, devices, own);
     if refusal != 0 {
         return Number::Refused(refusal);
     }
-    Number::Value(registers::sizing::size_region(words, count, bridges, devices, node, region))
+    Number::Value(registers::sizing::size_region(table, bridges, devices, node, region))
 }
 
 fn bounds_of(e: Ends) -> Bounds
@@ -97,20 +94,13 @@ fn bounds_of(e: Ends) -> Bounds
 }
 
 // Both ends of window k of a bridge (0 memory, 1 prefetchable, 2 I/O), or of region k of a device.
-pub fn ends_on<'a>(
-    words: &[u64; 192],
-    count: u8,
-    bridges: &'a [u8],
-    devices: &'a [u8],
-    node: u8,
-    k: u8,
-) -> Bounds
-    ensures { λ r. ⌜ r ≡ boundsIn (treeOf count (now (words .entry))) (images (now (bridges .entry)) (now (devices .entry))) node k ⌝ }
+pub fn ends_on<'a>(table: &Table, bridges: &'a [u8], devices: &'a [u8], node: u8, k: u8) -> Bounds
+    ensures { λ r. ⌜ r ≡ boundsIn (treeOf (now (table .entry))) (images (now (bridges .entry)) (now (devices .entry))) node k ⌝ }
 {
-    let wrong = (count <= node) | (2 < k);
-    let refusal = refusal_by(words, count, bridges, devices, wrong);
+    let own = window_refusal(table, node, k);
+    let refusal = refusal_by(table, bridges, devices, own);
     if refusal != 0 {
         return Bounds::Refused(refusal);
     }
-    bounds_of(claimants::bounds::window_ends(words, count, bridges, devices, node, k))
+    bounds_of(claimants::bounds::window_ends(table, bridges, devices, node, k))
 }

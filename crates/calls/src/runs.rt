@@ -2,47 +2,36 @@
 ghost use mathlib.Core.Path.{_≡_};
 ghost use Rattle.rack.specs.Table.{treeOf};
 ghost use Rattle.registers.specs.Image.{images};
-ghost use Rattle.simulator.specs.Answers.{answered};
-ghost use Rattle.calls.specs.Call.{runIn, checkIn};
+ghost use Rattle.calls.specs.Call.{replied, runIn, checkIn};
+use crate::Reply;
+use crate::refusal::event_refusal;
 use crate::refusal::refusal_by;
+use rack::table::Table;
 use rackfile::Event;
-use rackfile::events::event_wrong;
 use simulator::Answer;
 use simulator::run::answer_event;
-use window::Range;
 
 // An event over a table: refused by 6 to 13, or run.
-pub fn run_on(
-    words: &[u64; 192],
-    count: u8,
-    bridges: &mut [u8],
-    devices: &mut [u8],
-    host: Range,
-    e: Event,
-) -> Answer
-    ensures { λ r. ⌜ answered r (now (bridges .exit)) (now (devices .exit)) ≡ runIn (treeOf count (now (words .entry))) host (images (now (bridges .entry)) (now (devices .entry))) e ⌝ }
+pub fn run_on(table: &Table, bridges: &mut [u8], devices: &mut [u8], e: Event) -> Reply
+    ensures { λ r. ⌜ replied r (now (bridges .exit)) (now (devices .exit)) ≡ runIn (treeOf (now (table .entry))) (images (now (bridges .entry)) (now (devices .entry))) e ⌝ }
 {
-    let wrong = event_wrong(words, count, e);
-    let refusal = refusal_by(words, count, bridges, devices, wrong);
+    let own = event_refusal(table, e);
+    let refusal = refusal_by(table, bridges, devices, own);
     if refusal != 0 {
-        return Answer::Refused(refusal);
+        return Reply::Refused(refusal);
     }
-    answer_event(words, count, bridges, devices, host, e)
+    let a = answer_event(table, bridges, devices, e);
+    Reply::Answered(a)
 }
 
 // The check over a table: refused by 6 to 12, or made.
-pub fn check_on<'a>(
-    words: &[u64; 192],
-    count: u8,
-    bridges: &'a [u8],
-    devices: &'a [u8],
-    host: Range,
-) -> Answer
-    ensures { λ r. ⌜ r ≡ checkIn (treeOf count (now (words .entry))) host (images (now (bridges .entry)) (now (devices .entry))) ⌝ }
+pub fn check_on<'a>(table: &Table, bridges: &'a [u8], devices: &'a [u8]) -> Reply
+    ensures { λ r. ⌜ r ≡ checkIn (treeOf (now (table .entry))) (images (now (bridges .entry)) (now (devices .entry))) ⌝ }
 {
-    let refusal = refusal_by(words, count, bridges, devices, false);
+    let refusal = refusal_by(table, bridges, devices, 0);
     if refusal != 0 {
-        return Answer::Refused(refusal);
+        return Reply::Refused(refusal);
     }
-    Answer::Checked(checks::buses::check_rack(words, count, bridges, devices, host))
+    let r = checks::buses::check_rack(table, bridges, devices);
+    Reply::Answered(Answer::Checked(r))
 }

@@ -4,85 +4,93 @@ use mathlib.Core.Path.{_≡_, sym, ap, _∙_}
 use mathlib.Core.Bool.{Bool, true, false, cond}
 use Prim.Native.Nat.{ℕ, _+_, _-_, _≤_, _<_}
 use native.Mathlib.Omega.{arith}
+use lib.ListN.{length}
 use Rattle.rack.specs.declared.Node.{Node}
 use Rattle.rack.specs.Node.{isBridge}
-use Rattle.rack.specs.Tree.{Tree, host, bridgesFrom}
+use Rattle.rack.specs.Tree.{Tree, host, agents, bridgesFrom}
 use Rattle.registers.specs.Image.{Images}
-use Rattle.window.specs.declared.Range.{Range}
 use Rattle.claims.specs.declared.Space.the-variants.{Memory, Io, Configuration}
 use Rattle.overlap.specs.declared.Report.{Report}
 use Rattle.overlap.specs.declared.Report.the-variants.{Pass}
 use Rattle.overlap.specs.Check.{isFault, orElse, firstIn, inSpace, onBus, check}
+use Rattle.overlap.specs.StretchLaws.{two-agents}
 use Rattle.overlap.specs.FirstLaws.{else-found, else-next, else-pass, in-step, bridges-step, bridges-end}
 
-module _ (t : Tree) (h : Range) (im : Images) (bus : ℕ) {c : Report} {b : Bool}
-    (ec : c ≡ inSpace t h im bus Configuration) (eb : b ≡ isFault c) where
+module _ (t : Tree) (im : Images) (bus : ℕ) {c : Report} {b : Bool}
+    (ec : c ≡ inSpace t im bus Configuration) (eb : b ≡ isFault c) where
   abbrev behind : Report
-  behind = orElse (inSpace t h im bus Memory) (inSpace t h im bus Io)
+  behind = orElse (inSpace t im bus Memory) (inSpace t im bus Io)
 
-  spaces : onBus t h im bus ≡ orElse (inSpace t h im bus Configuration) behind
+  spaces : onBus t im bus ≡ orElse (inSpace t im bus Configuration) behind
   unfolding onBus firstIn
   spaces =
-      ap (λ (r : Report). orElse (inSpace t h im bus Configuration) (orElse (inSpace t h im bus Memory) r))
-      (else-pass (inSpace t h im bus Io))
+      ap (λ (r : Report). orElse (inSpace t im bus Configuration) (orElse (inSpace t im bus Memory) r))
+      (else-pass (inSpace t im bus Io))
 
   -- a fault of configuration is the bus's
-  pub configuration-found : b ≡ true → c ≡ onBus t h im bus
+  pub configuration-found : b ≡ true → c ≡ onBus t im bus
   configuration-found q = else-found behind spaces ec eb q
 
-  module _ (q : b ≡ false) {m : Report} {d : Bool} (em : m ≡ inSpace t h im bus Memory) (ed : d ≡ isFault m) where
+  module _ (q : b ≡ false) {m : Report} {d : Bool} (em : m ≡ inSpace t im bus Memory) (ed : d ≡ isFault m) where
     -- without one, memory's is
-    pub memory-found : d ≡ true → m ≡ onBus t h im bus
-    memory-found p = else-found (inSpace t h im bus Io) (else-next behind spaces ec eb q) em ed p
+    pub memory-found : d ≡ true → m ≡ onBus t im bus
+    memory-found p = else-found (inSpace t im bus Io) (else-next behind spaces ec eb q) em ed p
 
     -- and without that, the bus says what I/O says
-    pub io-left : d ≡ false → {i : Report} → i ≡ inSpace t h im bus Io → i ≡ onBus t h im bus
-    io-left p ei = ei ∙ sym (else-next (inSpace t h im bus Io) (else-next behind spaces ec eb q) em ed p)
+    pub io-left : d ≡ false → {i : Report} → i ≡ inSpace t im bus Io → i ≡ onBus t im bus
+    io-left p ei = ei ∙ sym (else-next (inSpace t im bus Io) (else-next behind spaces ec eb q) em ed p)
+
+-- two agents cannot clash
+pub few-pass : (t : Tree) (im : Images) (bus : ℕ) {n : ℕ} → n ≡ length (agents t bus) → n ≤ 2 → Pass ≡ onBus t im bus
+few-pass t im bus at few = sym (two-agents t im bus (omega arith))
 
 module _ (node : Node) (x : Report) {n : Node} {b : Bool} (en : n ≡ node) (eb : b ≡ isBridge (n .kind)) where
   is : isBridge (node .kind) ≡ b
   is = sym (eb ∙ ap (λ (m : Node). isBridge (m .kind)) en)
 
   -- a bridge holds a bus
-  pub bridge-holds : b ≡ true → x ≡ cond (isBridge (node .kind)) x Pass
-  bridge-holds q = rw (is, q)
+  pub bridge-holds : b ≡ true → {r : Report} → r ≡ x → r ≡ cond (isBridge (node .kind)) x Pass
+  bridge-holds q e = rw (is, q) e
 
   -- a device holds none
   pub device-holds : b ≡ false → Pass ≡ cond (isBridge (node .kind)) x Pass
   device-holds q = rw (is, q)
 
-module _ (t : Tree) (h : Range) (im : Images) where
+module _ (t : Tree) (im : Images) where
   -- the first fault among the bridges from node i on
   abbrev pub from : ℕ → Report
-  from i = firstIn (onBus t h im) (bridgesFrom t i (t .count - i))
+  from i = firstIn (onBus t im) (bridgesFrom t i (t .count - i))
 
-  whole : check t h im ≡ orElse (onBus t h im host) (from 0)
+  whole : check t im ≡ orElse (onBus t im host) (from 0)
   unfolding check
   whole =
       let e : t .count ≡ t .count - 0 = omega arith in
-      in-step (onBus t h im) host (bridgesFrom t 0 (t .count))
-      ∙ ap (λ (k : ℕ). orElse (onBus t h im host) (firstIn (onBus t h im) (bridgesFrom t 0 k))) e
+      in-step (onBus t im) host (bridgesFrom t 0 (t .count))
+      ∙ ap (λ (k : ℕ). orElse (onBus t im host) (firstIn (onBus t im) (bridgesFrom t 0 k))) e
 
-  module _ {r : Report} {b : Bool} (er : r ≡ onBus t h im host) (eb : b ≡ isFault r) where
+  module _ {r : Report} {b : Bool} (er : r ≡ onBus t im host) (eb : b ≡ isFault r) where
     -- a fault of the root bus is the rack's
-    pub root-found : b ≡ true → r ≡ check t h im
+    pub root-found : b ≡ true → r ≡ check t im
     root-found q = else-found (from 0) whole er eb q
 
     -- without one, the bridges are asked
-    pub root-left : b ≡ false → check t h im ≡ from 0
+    pub root-left : b ≡ false → check t im ≡ from 0
     root-left q = else-next (from 0) whole er eb q
 
-  module _ (i : ℕ) (inv : check t h im ≡ from i) where
-    module _ (l : i < t .count) {r : Report} {b : Bool} (er : r ≡ cond (isBridge (t .node i .kind)) (onBus t h im i) Pass)
+  module _ {i n : ℕ} (inv : check t im ≡ from i) (at : n ≡ t .count) where
+    module _ (l : i < n) {r : Report} {b : Bool} (er : r ≡ cond (isBridge (t .node i .kind)) (onBus t im i) Pass)
         (eb : b ≡ isFault r) where
+      step : check t im ≡ orElse (cond (isBridge (t .node i .kind)) (onBus t im i) Pass) (from (i + 1))
+      step = inv ∙ bridges-step t (onBus t im) (t .count) i (rw at at l)
+
       -- a fault of the bus that node i holds is the rack's
-      pub held-found : b ≡ true → r ≡ check t h im
-      held-found q = else-found (from (i + 1)) (inv ∙ bridges-step t (onBus t h im) (t .count) i l) er eb q
+      pub held-found : b ≡ true → r ≡ check t im
+      held-found q = else-found (from (i + 1)) step er eb q
 
       -- without one, the next node is asked
-      pub held-left : b ≡ false → check t h im ≡ from (i + 1)
-      held-left q = else-next (from (i + 1)) (inv ∙ bridges-step t (onBus t h im) (t .count) i l) er eb q
+      pub held-left : b ≡ false → check t im ≡ from (i + 1)
+      held-left q = else-next (from (i + 1)) step er eb q
 
     -- after the last node the rack passes
-    pub none-found : t .count ≤ i → Pass ≡ check t h im
-    none-found l = sym (inv ∙ bridges-end t (onBus t h im) (t .count) i l)
+    pub none-found : n ≤ i → Pass ≡ check t im
+    none-found l = sym (inv ∙ bridges-end t (onBus t im) (t .count) i (rw at at l))

@@ -1,7 +1,7 @@
 -- A pass over the agents of a bus: how many claim, and up to where all their claims stay the same.
 -- Assumes nothing.
 use mathlib.Core.Path.{_≡_, refl, sym, ap, _∙_}
-use mathlib.Core.Bool.{Bool, false, cond}
+use mathlib.Core.Bool.{Bool, true, false, cond}
 use mathlib.Core.List.{List, [], _∷_}
 use Prim.Native.Nat.{ℕ, zero, suc, _+_, _-_, _≤_, _<_}
 use native.Mathlib.Nat.{sub-zero}
@@ -9,7 +9,6 @@ use native.Mathlib.Omega.{arith}
 use lib.ListN.{getD, length}
 use Rattle.rack.specs.Tree.{Tree, agents}
 use Rattle.registers.specs.Image.{Images}
-use Rattle.window.specs.declared.Range.{Range}
 use Rattle.claims.specs.declared.Space.{Space}
 use Rattle.claims.specs.declared.Agent.{Agent}
 use Rattle.claims.specs.Claim.{claimsOf, untilOf}
@@ -17,7 +16,7 @@ use Rattle.overlap.specs.declared.Report.{Report}
 use Rattle.overlap.specs.declared.Report.the-variants.{Pass}
 use Rattle.overlap.specs.Check.{isFault, firstFrom, atValue}
 use Rattle.overlap.specs.Stretch.{nobody, Gathered, untilAll, claiming}
-use Rattle.overlap.specs.FirstLaws.{pass-is, from-end}
+use Rattle.overlap.specs.FirstLaws.{else-found, from-step, pass-is, from-end}
 use Rattle.overlap.specs.StretchLaws.{until-step, until-end, claiming-step, claiming-end, all-kept, leap, few-claim}
 
 -- within a list it does not matter what is outside
@@ -45,10 +44,11 @@ module _ (gs : List Agent) (space : Space) (a n last : ℕ) where
       }
 
   -- one more
-  pub seen-more : {k until i v u : ℕ} (d : Agent) → length gs ≡ 17 → n ≤ 17 → i < n → Seen gs space a n last k until i
-      → v ≡ cond (claimsOf (getD gs i d) space a) 1 0 → v ≤ 1 → u ≡ untilOf (getD gs i d) space a until
+  pub seen-more : {k until i v u : ℕ} {b : Bool} (d : Agent) → length gs ≡ 17 → n ≤ 17 → i < n → Seen gs space a n last k until i
+      → b ≡ claimsOf (getD gs i d) space a → u ≡ untilOf (getD gs i d) space a until → v ≡ cond b 1 0 → v ≤ 1
       → Seen gs space a n last (k + v) u (i + 1)
-  seen-more {k} {until} {i} {v} {u} d long le h s ev v-le eu =
+  seen-more {k} {until} {i} {v} {u} d long le h s eb eu ec v-le =
+      let ev = ec ∙ ap (λ (c : Bool). cond c 1 0) eb in
       let g : getD gs i d ≡ getD gs i nobody = getD-any gs i d nobody (omega arith) in
       record {
         in-range = omega arith;
@@ -64,26 +64,35 @@ module _ (gs : List Agent) (space : Space) (a n last : ℕ) where
   all-stay : {k until i : ℕ} → n ≤ i → Seen gs space a n last k until i → untilAll gs space a n 0 last ≡ until
   all-stay {k} {until} {i} h s = s .stay ∙ until-end gs space a n i until h
 
-  -- the end is not below a
-  pub onward : {k until i : ℕ} → n ≤ i → Seen gs space a n last k until i → a ≤ last → a ≤ until
-  onward h s l = rw (← all-stay h s) (all-kept gs space a n 0 last .low l)
+  -- the end is not below a: behind it less is left
+  pub seen-less : {k until i : ℕ} → n ≤ i → Seen gs space a n last k until i → a ≤ last → until < last
+      → last + 1 - (until + 1) < last + 1 - a
+  seen-less {until = until} h s l less =
+      let low : a ≤ until = rw (← all-stay h s) (all-kept gs space a n 0 last .low l) in omega arith
 
-  module _ (t : Tree) (h : Range) (im : Images) (bus : ℕ) (is : Gathered t h im bus gs) (all : n ≡ length (agents t bus)) where
+  module _ (t : Tree) (im : Images) (bus : ℕ) (is : Gathered t im bus gs) (all : n ≡ length (agents t bus)) where
     -- one claims or none: no fault
-    pub seen-few : {k until i : ℕ} → n ≤ i → Seen gs space a n last k until i → k ≤ 1 → atValue t h im bus space a ≡ Pass
-    seen-few end s few = few-claim t h im bus gs is n all space a (omega (arith, all-claim end s))
+    pub seen-few : {k until i : ℕ} → n ≤ i → Seen gs space a n last k until i → k ≤ 1 → atValue t im bus space a ≡ Pass
+    seen-few end s few = few-claim t im bus gs is n all space a (omega (arith, all-claim end s))
+
+    -- a fault is the search's
+    pub seen-found : {w r : Report} {b : Bool} → a ≤ last → w ≡ firstFrom (atValue t im bus space) (last + 1 - a) a
+        → r ≡ atValue t im bus space a → b ≡ isFault r → b ≡ true → r ≡ w
+    seen-found l ew er eb e =
+        let f = atValue t im bus space in
+        else-found (firstFrom f (last + 1 - (a + 1)) (a + 1)) (ew ∙ from-step f (last + 1) a (omega (arith, l))) er eb e
 
     -- without a fault the search goes on behind the end
     pub seen-on : {k until i : ℕ} {w r : Report} {b : Bool} → n ≤ i → Seen gs space a n last k until i → a ≤ last
-        → w ≡ firstFrom (atValue t h im bus space) (last + 1 - a) a → r ≡ atValue t h im bus space a → b ≡ isFault r → b ≡ false
-        → w ≡ firstFrom (atValue t h im bus space) (last + 1 - (until + 1)) (until + 1)
+        → w ≡ firstFrom (atValue t im bus space) (last + 1 - a) a → r ≡ atValue t im bus space a → b ≡ isFault r → b ≡ false
+        → w ≡ firstFrom (atValue t im bus space) (last + 1 - (until + 1)) (until + 1)
     seen-on {r = r} end s l ew er eb e =
-        ew ∙ leap t h im bus gs is n all space a last l (sym er ∙ pass-is r (sym eb ∙ e))
-        ∙ ap (λ (u : ℕ). firstFrom (atValue t h im bus space) (last + 1 - (u + 1)) (u + 1)) (all-stay end s)
+        ew ∙ leap t im bus gs is n all space a last l (sym er ∙ pass-is r (sym eb ∙ e))
+        ∙ ap (λ (u : ℕ). firstFrom (atValue t im bus space) (last + 1 - (u + 1)) (u + 1)) (all-stay end s)
 
     -- and passes where that is the last value
     pub seen-end : {k until i : ℕ} {w r : Report} {b : Bool} → n ≤ i → Seen gs space a n last k until i → a ≤ last
-        → w ≡ firstFrom (atValue t h im bus space) (last + 1 - a) a → r ≡ atValue t h im bus space a → b ≡ isFault r → b ≡ false
+        → w ≡ firstFrom (atValue t im bus space) (last + 1 - a) a → r ≡ atValue t im bus space a → b ≡ isFault r → b ≡ false
         → last ≤ until → Pass ≡ w
     seen-end {until = until} end s l ew er eb e le =
-        sym (seen-on end s l ew er eb e ∙ from-end (atValue t h im bus space) (last + 1) (until + 1) (omega arith))
+        sym (seen-on end s l ew er eb e ∙ from-end (atValue t im bus space) (last + 1) (until + 1) (omega arith))

@@ -8,17 +8,19 @@ ghost use Rattle.registers.specs.Image.{images};
 ghost use Rattle.overlap.specs.Stretch.{Gathered};
 use claimants::decode::agent_at;
 use claims::Agent;
+use rack::table::Table;
+use rack::table::count_of;
 use rack::table::parent_at;
-use window::Range;
 
 // How many agents a bus has.
-pub fn agent_count(words: &[u64; 192], count: u8, bus: u8) -> usize
-    ensures { λ r. ⌜ r ≡ length (agents (treeOf count (now (words .entry))) bus) ⌝ }
+pub fn agent_count(table: &Table, bus: u8) -> usize
+    ensures { λ r. ⌜ r ≡ length (agents (treeOf (now (table .entry))) bus) ⌝ }
 {
     let mut found: usize = 1;
+    let count = count_of(table);
     let mut i: u8 = 0;
     while i < count {
-        if parent_at(words, i) == bus {
+        if parent_at(table, i) == bus {
             found += 1;
             i += 1;
         } else {
@@ -29,24 +31,18 @@ pub fn agent_count(words: &[u64; 192], count: u8, bus: u8) -> usize
 }
 
 // The agents of a bus in agent order: the holder, then the nodes by number.
-pub fn agents_on<'a>(
-    words: &[u64; 192],
-    count: u8,
-    bridges: &'a [u8],
-    devices: &'a [u8],
-    host: Range,
-    bus: u8,
-) -> [Agent; 17]
-    requires { ⌜ length (agents (treeOf count (now words)) bus) ≤ 17 ⌝ }
-    ensures { λ r. ⌜ Gathered (treeOf count (now (words .entry))) host (images (now (bridges .entry)) (now (devices .entry))) bus r ⌝ }
+pub fn agents_on<'a>(table: &Table, bridges: &'a [u8], devices: &'a [u8], bus: u8) -> [Agent; 17]
+    requires { ⌜ length (agents (treeOf (now table)) bus) ≤ 17 ⌝ }
+    ensures { λ r. ⌜ Gathered (treeOf (now (table .entry))) (images (now (bridges .entry)) (now (devices .entry))) bus r ⌝ }
 {
-    let holder = agent_at(words, count, bridges, devices, host, bus, bus);
+    let holder = agent_at(table, bridges, devices, bus, bus);
     let mut found = [holder; 17];
     let mut n: usize = 1;
+    let count = count_of(table);
     let mut i: u8 = 0;
     while i < count {
-        if parent_at(words, i) == bus {
-            found[n] = agent_at(words, count, bridges, devices, host, bus, i);
+        if parent_at(table, i) == bus {
+            found[n] = agent_at(table, bridges, devices, bus, i);
             n += 1;
             i += 1;
         } else {

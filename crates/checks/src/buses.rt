@@ -18,29 +18,26 @@ use claims::Agent;
 use claims::Space;
 use overlap::Report;
 use overlap::drivers::is_fault;
+use rack::table::Table;
+use rack::table::count_of;
 use rack::table::node_at;
-use window::Range;
 
 // The three spaces of a bus.
 fn spaces_report<'a>(
-    words: &[u64; 192],
-    count: u8,
+    table: &Table,
     bridges: &'a [u8],
     devices: &'a [u8],
-    host: Range,
     bus: u8,
     gathered: [Agent; 17],
     n: usize,
 ) -> Report
-    requires { ⌜ (n ≡ length (agents (treeOf count (now words)) bus)) × (n ≤ 17) × Gathered (treeOf count (now words)) host (images (now bridges) (now devices)) bus gathered ⌝ }
-    ensures { λ r. ⌜ r ≡ onBus (treeOf count (now (words .entry))) host (images (now (bridges .entry)) (now (devices .entry))) bus ⌝ }
+    requires { ⌜ (n ≡ length (agents (treeOf (now table)) bus)) × (n ≤ 17) × Gathered (treeOf (now table)) (images (now bridges) (now devices)) bus gathered ⌝ }
+    ensures { λ r. ⌜ r ≡ onBus (treeOf (now (table .entry))) (images (now (bridges .entry)) (now (devices .entry))) bus ⌝ }
 {
     let c = sweep(
-        words,
-        count,
+        table,
         bridges,
         devices,
-        host,
         bus,
         gathered,
         n,
@@ -52,11 +49,9 @@ fn spaces_report<'a>(
         return c;
     }
     let m = sweep(
-        words,
-        count,
+        table,
         bridges,
         devices,
-        host,
         bus,
         gathered,
         n,
@@ -68,11 +63,9 @@ fn spaces_report<'a>(
         return m;
     }
     sweep(
-        words,
-        count,
+        table,
         bridges,
         devices,
-        host,
         bus,
         gathered,
         n,
@@ -83,63 +76,44 @@ fn spaces_report<'a>(
 }
 
 // One bus. Two agents cannot clash: a driver does not claim.
-fn bus_report<'a>(
-    words: &[u64; 192],
-    count: u8,
-    bridges: &'a [u8],
-    devices: &'a [u8],
-    host: Range,
-    bus: u8,
-) -> Report
-    requires { ⌜ length (agents (treeOf count (now words)) bus) ≤ 17 ⌝ }
-    ensures { λ r. ⌜ r ≡ onBus (treeOf count (now (words .entry))) host (images (now (bridges .entry)) (now (devices .entry))) bus ⌝ }
+fn bus_report<'a>(table: &Table, bridges: &'a [u8], devices: &'a [u8], bus: u8) -> Report
+    requires { ⌜ length (agents (treeOf (now table)) bus) ≤ 17 ⌝ }
+    ensures { λ r. ⌜ r ≡ onBus (treeOf (now (table .entry))) (images (now (bridges .entry)) (now (devices .entry))) bus ⌝ }
 {
-    let n = agent_count(words, count, bus);
+    let n = agent_count(table, bus);
     if n <= 2 {
         return Report::Pass;
     }
-    let gathered = agents_on(words, count, bridges, devices, host, bus);
-    spaces_report(words, count, bridges, devices, host, bus, gathered, n)
+    let gathered = agents_on(table, bridges, devices, bus);
+    spaces_report(table, bridges, devices, bus, gathered, n)
 }
 
 // The bus that a node holds: a bridge's.
-fn held_report<'a>(
-    words: &[u64; 192],
-    count: u8,
-    bridges: &'a [u8],
-    devices: &'a [u8],
-    host: Range,
-    i: u8,
-) -> Report
-    requires { ⌜ length (agents (treeOf count (now words)) i) ≤ 17 ⌝ }
-    ensures { λ r. ⌜ r ≡ cond (isBridge (nodeAt (now (words .entry)) i .kind)) (onBus (treeOf count (now (words .entry))) host (images (now (bridges .entry)) (now (devices .entry))) i) Pass ⌝ }
+fn held_report<'a>(table: &Table, bridges: &'a [u8], devices: &'a [u8], i: u8) -> Report
+    requires { ⌜ length (agents (treeOf (now table)) i) ≤ 17 ⌝ }
+    ensures { λ r. ⌜ r ≡ cond (isBridge (nodeAt (now (table .entry)) i .kind)) (onBus (treeOf (now (table .entry))) (images (now (bridges .entry)) (now (devices .entry))) i) Pass ⌝ }
 {
-    let node = node_at(words, i as usize);
+    let node = node_at(table, i as usize);
     let kind = node.kind;
     if rack::is_bridge(kind) {
-        return bus_report(words, count, bridges, devices, host, i);
+        return bus_report(table, bridges, devices, i);
     }
     Report::Pass
 }
 
 // The check of an accepted rack.
-pub fn check_rack<'a>(
-    words: &[u64; 192],
-    count: u8,
-    bridges: &'a [u8],
-    devices: &'a [u8],
-    host: Range,
-) -> Report
-    requires { ⌜ rackRefusal (treeOf count (now words)) ≡ 0 ⌝ }
-    ensures { λ r. ⌜ r ≡ check (treeOf count (now (words .entry))) host (images (now (bridges .entry)) (now (devices .entry))) ⌝ }
+pub fn check_rack<'a>(table: &Table, bridges: &'a [u8], devices: &'a [u8]) -> Report
+    requires { ⌜ rackRefusal (treeOf (now table)) ≡ 0 ⌝ }
+    ensures { λ r. ⌜ r ≡ check (treeOf (now (table .entry))) (images (now (bridges .entry)) (now (devices .entry))) ⌝ }
 {
-    let r = bus_report(words, count, bridges, devices, host, 255);
+    let r = bus_report(table, bridges, devices, 255);
     if is_fault(r) {
         return r;
     }
+    let count = count_of(table);
     let mut i: u8 = 0;
     while i < count {
-        let b = held_report(words, count, bridges, devices, host, i);
+        let b = held_report(table, bridges, devices, i);
         if is_fault(b) {
             return b;
         }

@@ -13,7 +13,7 @@ use claims::Space;
 use overlap::Report;
 use overlap::drivers::found_at;
 use overlap::drivers::is_fault;
-use window::Range;
+use rack::table::Table;
 
 fn one_if(yes: bool) -> usize
     ensures { λ r. ⌜ (r ≡ cond yes 1 0) × (r ≤ 1) ⌝ }
@@ -24,11 +24,9 @@ fn one_if(yes: bool) -> usize
 // The first fault of a bus among the values from first to last of a space. The agents stay in this function: handed down
 // they would be copied at every step.
 pub fn sweep<'a>(
-    words: &[u64; 192],
-    count: u8,
+    table: &Table,
     bridges: &'a [u8],
     devices: &'a [u8],
-    host: Range,
     bus: u8,
     gathered: [Agent; 17],
     n: usize,
@@ -36,8 +34,8 @@ pub fn sweep<'a>(
     first: u64,
     last: u64,
 ) -> Report
-    requires { ⌜ (n ≡ length (agents (treeOf count (now words)) bus)) × (n ≤ 17) × (first ≤ last) × Gathered (treeOf count (now words)) host (images (now bridges) (now devices)) bus gathered ⌝ }
-    ensures { λ r. ⌜ r ≡ firstFrom (atValue (treeOf count (now (words .entry))) host (images (now (bridges .entry)) (now (devices .entry))) bus space) (last + 1 - first) first ⌝ }
+    requires { ⌜ (n ≡ length (agents (treeOf (now table)) bus)) × (n ≤ 17) × (first ≤ last) × Gathered (treeOf (now table)) (images (now bridges) (now devices)) bus gathered ⌝ }
+    ensures { λ r. ⌜ r ≡ firstFrom (atValue (treeOf (now (table .entry))) (images (now (bridges .entry)) (now (devices .entry))) bus space) (last + 1 - first) first ⌝ }
 {
     let mut a = first;
     loop {
@@ -51,17 +49,7 @@ pub fn sweep<'a>(
             until = v.until;
             i += 1;
         }
-        let r = found_at(
-            words,
-            count,
-            bridges,
-            devices,
-            host,
-            bus,
-            space,
-            a,
-            claiming,
-        );
+        let r = found_at(table, bridges, devices, bus, space, a, claiming);
         if is_fault(r) {
             return r;
         }

@@ -1,3 +1,4 @@
 -- What the functions' proofs use.
+mod Decoded
 mod Found
 mod OnBus

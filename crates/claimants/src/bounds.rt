@@ -5,9 +5,10 @@ ghost use Rattle.registers.specs.Image.{images};
 ghost use Rattle.claims.specs.Ends.{endsOf, windowIn, windowEnds};
 use crate::decode::area_in;
 use claims::Ends;
+use rack::Range;
+use rack::table::Table;
 use rack::table::node_at;
 use registers::image::view_of;
-use window::Range;
 use window::Windows;
 
 fn ends_of(r: Range) -> Ends
@@ -35,19 +36,12 @@ fn window_in(w: Windows, k: u8) -> Range
 }
 
 // The ends of window k of a bridge (0 memory, 1 prefetchable, 2 I/O), or of region k of a device.
-pub fn window_ends<'a>(
-    words: &[u64; 192],
-    count: u8,
-    bridges: &'a [u8],
-    devices: &'a [u8],
-    i: u8,
-    k: u8,
-) -> Ends
-    ensures { λ r. ⌜ r ≡ windowEnds (treeOf count (now (words .entry))) (images (now (bridges .entry)) (now (devices .entry))) i k ⌝ }
+pub fn window_ends<'a>(table: &Table, bridges: &'a [u8], devices: &'a [u8], i: u8, k: u8) -> Ends
+    ensures { λ r. ⌜ r ≡ windowEnds (treeOf (now (table .entry))) (images (now (bridges .entry)) (now (devices .entry))) i k ⌝ }
 {
     if k < 3 {
-        let n = node_at(words, i as usize);
-        let part = view_of(words, count, bridges, devices, i);
+        let n = node_at(table, i as usize);
+        let part = view_of(table, bridges, devices, i);
         let kind = n.kind;
         if rack::is_bridge(kind) {
             let w = window::decode::windows_of(part);

@@ -7,46 +7,38 @@ ghost use Rattle.claims.specs.Claimants.{counted, onBus, nextFrom, claimants, f
 use crate::decode::agent_at;
 use claims::Claimants;
 use claims::Transaction;
+use rack::table::Table;
+use rack::table::count_of;
 use rack::table::parent_at;
-use window::Range;
 
 // Whether agent g claims and does not drive.
-fn counts<'a>(
-    words: &[u64; 192],
-    count: u8,
-    bridges: &'a [u8],
-    devices: &'a [u8],
-    host: Range,
-    t: Transaction,
-    g: u8,
-) -> bool
-    ensures { λ r. ⌜ r ≡ counted (treeOf count (now (words .entry))) host (images (now (bridges .entry)) (now (devices .entry))) (t .space) (t .bus) (t .driver) (t .address) g ⌝ }
+fn counts<'a>(table: &Table, bridges: &'a [u8], devices: &'a [u8], t: Transaction, g: u8) -> bool
+    ensures { λ r. ⌜ r ≡ counted (treeOf (now (table .entry))) (images (now (bridges .entry)) (now (devices .entry))) (t .space) (t .bus) (t .driver) (t .address) g ⌝ }
 {
     if g == t.driver {
         return false;
     }
-    let agent = agent_at(words, count, bridges, devices, host, t.bus, g);
+    let agent = agent_at(table, bridges, devices, t.bus, g);
     let space = t.space;
     agent.claims(space, t.address)
 }
 
 // The first node on the bus, from number `from` on, that claims; 255 for none.
 fn next_claimant<'a>(
-    words: &[u64; 192],
-    count: u8,
+    table: &Table,
     bridges: &'a [u8],
     devices: &'a [u8],
-    host: Range,
     t: Transaction,
     from: u8,
 ) -> u8
-    ensures { λ r. ⌜ r ≡ nextFrom (onBus (treeOf count (now (words .entry))) host (images (now (bridges .entry)) (now (devices .entry))) (t .space) (t .bus) (t .driver) (t .address)) from (count - from) ⌝ }
+    ensures { λ r. ⌜ r ≡ nextFrom (onBus (treeOf (now (table .entry))) (images (now (bridges .entry)) (now (devices .entry))) (t .space) (t .bus) (t .driver) (t .address)) from (treeOf (now (table .entry)) .count - from) ⌝ }
 {
     let bus = t.bus;
+    let count = count_of(table);
     let mut i = from;
     while i < count {
-        if parent_at(words, i) == bus {
-            if counts(words, count, bridges, devices, host, t, i) {
+        if parent_at(table, i) == bus {
+            if counts(table, bridges, devices, t, i) {
                 return i;
             }
             i += 1;
@@ -59,18 +51,16 @@ fn next_claimant<'a>(
 
 // The claimants of a transaction, in agent order: the holder, then the nodes by number.
 pub fn claimants_of<'a>(
-    words: &[u64; 192],
-    count: u8,
+    table: &Table,
     bridges: &'a [u8],
     devices: &'a [u8],
-    host: Range,
     t: Transaction,
 ) -> Claimants
-    ensures { λ r. ⌜ r ≡ firstTwo (claimants (treeOf count (now (words .entry))) host (images (now (bridges .entry)) (now (devices .entry))) (t .space) (t .bus) (t .driver) (t .address)) ⌝ }
+    ensures { λ r. ⌜ r ≡ firstTwo (claimants (treeOf (now (table .entry))) (images (now (bridges .entry)) (now (devices .entry))) (t .space) (t .bus) (t .driver) (t .address)) ⌝ }
 {
     let bus = t.bus;
-    let holder = counts(words, count, bridges, devices, host, t, bus);
-    let one = next_claimant(words, count, bridges, devices, host, t, 0);
+    let holder = counts(table, bridges, devices, t, bus);
+    let one = next_claimant(table, bridges, devices, t, 0);
     if one == 255 {
         if holder {
             return Claimants::One(bus);
@@ -80,7 +70,7 @@ pub fn claimants_of<'a>(
     if holder {
         return Claimants::Two(bus, one);
     }
-    let two = next_claimant(words, count, bridges, devices, host, t, one + 1);
+    let two = next_claimant(table, bridges, devices, t, one + 1);
     if two == 255 {
         return Claimants::One(one);
     }

@@ -13,10 +13,12 @@ use header::offset::SECONDARY_BUS;
 use header::offset::SUBORDINATE_BUS;
 use header::register::byte_at;
 use rack::Node;
+use rack::Range;
+use rack::table::Table;
+use rack::table::host_memory;
 use rack::table::node_at;
 use registers::image::view_of;
 use window::Area;
-use window::Range;
 
 fn bus_range(secondary: u8, subordinate: u8) -> Range
     ensures { λ r. ⌜ r ≡ range secondary subordinate ⌝ }
@@ -70,22 +72,14 @@ pub fn device_of(n: Node, part: &[u8]) -> DeviceClaims
 }
 
 // Agent g of a bus.
-pub fn agent_at<'a>(
-    words: &[u64; 192],
-    count: u8,
-    bridges: &'a [u8],
-    devices: &'a [u8],
-    host: Range,
-    bus: u8,
-    g: u8,
-) -> Agent
-    ensures { λ r. ⌜ r ≡ agentOf (treeOf count (now (words .entry))) host (images (now (bridges .entry)) (now (devices .entry))) bus g ⌝ }
+pub fn agent_at<'a>(table: &Table, bridges: &'a [u8], devices: &'a [u8], bus: u8, g: u8) -> Agent
+    ensures { λ r. ⌜ r ≡ agentOf (treeOf (now (table .entry))) (images (now (bridges .entry)) (now (devices .entry))) bus g ⌝ }
 {
     if g == 255 {
-        return Agent::Host(host);
+        return Agent::Host(host_memory(table));
     }
-    let n = node_at(words, g as usize);
-    let part = view_of(words, count, bridges, devices, g);
+    let n = node_at(table, g as usize);
+    let part = view_of(table, bridges, devices, g);
     let kind = n.kind;
     if rack::is_bridge(kind) {
         let b = bridge_of(part);

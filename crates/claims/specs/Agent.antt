@@ -10,7 +10,6 @@ use Rattle.rack.specs.Node.{isBridge, regionIn}
 use Rattle.rack.specs.Tree.{Tree, host}
 use Rattle.header.specs.Offset.{COMMAND, SECONDARY-BUS, SUBORDINATE-BUS}
 use Rattle.registers.specs.Image.{Images, view}
-use Rattle.window.specs.declared.Range.{Range}
 use Rattle.window.specs.declared.Area.{Area}
 use Rattle.window.specs.Range.{range}
 use Rattle.window.specs.Window.{bitAt, windowsOf}
@@ -45,10 +44,10 @@ deviceOf n part =
       third = areaIn n part 2;
     }
 
--- agent g of a bus: the host, the bridge that holds the bus, or a node on it. h is the host's memory
-unfoldable pub agentOf : Tree → Range → Images → ℕ → ℕ → Agent
-agentOf t h im bus g =
-    cond (eqb g host) (Host h)
+-- agent g of a bus: the host, the bridge that holds the bus, or a node on it
+unfoldable pub agentOf : Tree → Images → ℕ → ℕ → Agent
+agentOf t im bus g =
+    cond (eqb g host) (Host (t .hostMemory))
     (cond (isBridge (t .node g .kind))
     (cond (eqb g bus) (Secondary (bridgeOf (view t im g))) (Primary (bridgeOf (view t im g))))
     (Device (deviceOf (t .node g) (view t im g))))

@@ -4,7 +4,7 @@ use Prim.Native.Nat.{ℕ, _-_}
 use mathlib.Core.Bool.{Bool, true, false, not, _&&_, _||_, cond}
 use Rattle.rack.specs.Tree.{Tree}
 use Rattle.registers.specs.Image.{Images}
-use Rattle.window.specs.declared.Range.{Range}
+use Rattle.rack.specs.declared.Range.{Range}
 use Rattle.window.specs.Range.{within}
 use Rattle.window.specs.Cut.{cutRange}
 use Rattle.window.specs.Inside.{insideMemory, insideIo, memoryUntil, ioUntil}
@@ -53,8 +53,8 @@ claimsOf (Device d) space a = deviceClaims d space a
 claimsOf (Host h) space a = hostClaims h space a
 
 -- agent g of a bus claims an address of a space
-abbrev pub claims : Tree → Range → Images → Space → ℕ → ℕ → ℕ → Bool
-claims t h im space bus g a = claimsOf (agentOf t h im bus g) space a
+abbrev pub claims : Tree → Images → Space → ℕ → ℕ → ℕ → Bool
+claims t im space bus g a = claimsOf (agentOf t im bus g) space a
 
 -- an end, at most e, up to which a claim at a stays the same
 unfoldable pub windowsUntil : BridgeClaims → Space → ℕ → ℕ → ℕ

@@ -1,6 +1,6 @@
 -- The turns of a search for the next claimant, and the first two claimants from two such searches.
 -- Assumes nothing.
-use mathlib.Core.Path.{_≡_, refl, ap, _∙_}
+use mathlib.Core.Path.{_≡_, refl, sym, ap, _∙_}
 use mathlib.Core.Logic.{_≢_}
 use mathlib.Core.Bool.{Bool, true, false, not, _&&_, cond}
 use mathlib.Core.List.{List, [], _∷_}
@@ -11,26 +11,28 @@ use Rattle.rack.specs.Bools.{tested}
 use Rattle.rack.specs.CountLaws.{left-suc, left-none}
 use Rattle.rack.specs.Tree.{Tree, parentOf, nodesFrom}
 use Rattle.registers.specs.Image.{Images}
-use Rattle.window.specs.declared.Range.{Range}
 use Rattle.claims.specs.declared.Space.{Space}
 use Rattle.claims.specs.declared.Claimants.the-variants.{Nobody, One, Two}
 use Rattle.claims.specs.Claim.{claims}
 use Rattle.claims.specs.Claimants.{claimantsIn, claimants, counted, onBus, nextFrom, firstTwo}
 
--- a number that passes is the next one
-pub next-found : (f : ℕ → Bool) (j n : ℕ) → j < n → f j ≡ true → nextFrom f j (n - j) ≡ j
-unfolding nextFrom
-next-found f j n h e = rw (left-suc j n h, e)
+-- a search from a number on that has found none before i
+abbrev pub NextYet : (ℕ → Bool) → ℕ → ℕ → ℕ → Type 0
+NextYet f from n i = nextFrom f from (n - from) ≡ nextFrom f i (n - i)
 
--- past a number that fails the search goes on
-pub next-next : (f : ℕ → Bool) (j n : ℕ) → j < n → f j ≡ false → nextFrom f j (n - j) ≡ nextFrom f (j + 1) (n - (j + 1))
-unfolding nextFrom
-next-next f j n h e = rw (left-suc j n h, e)
+module _ (f : ℕ → Bool) (from : ℕ) {n i : ℕ} (yet : NextYet f from n i) where
+  pub next-next : {b : Bool} → i < n → b ≡ f i → b ≡ false → NextYet f from n (i + 1)
+  unfolding nextFrom
+  next-next h e q = yet ∙ rw (left-suc i n h, ← e, q)
 
--- past the last number there is none
-pub next-none : (f : ℕ → Bool) (j n : ℕ) → n ≤ j → nextFrom f j (n - j) ≡ 255
-unfolding nextFrom
-next-none f j n h = rw (left-none j n h)
+  module _ {count : ℕ} (at : n ≡ count) where
+    pub next-found : {b : Bool} → i < n → b ≡ f i → b ≡ true → i ≡ nextFrom f from (count - from)
+    unfolding nextFrom
+    next-found h e q = sym (ap (λ (k : ℕ). nextFrom f from (k - from)) (sym at) ∙ yet ∙ rw (left-suc i n h, ← e, q))
+
+    pub next-none : n ≤ i → 255 ≡ nextFrom f from (count - from)
+    unfolding nextFrom
+    next-none h = sym (ap (λ (k : ℕ). nextFrom f from (k - from)) (sym at) ∙ yet ∙ rw (left-none i n h))
 
 -- the numbers that pass, of the `left` from i on
 unfoldable pub passing : (ℕ → Bool) → ℕ → ℕ → List ℕ
@@ -77,32 +79,32 @@ claimants-passing t claim bus driver i (suc left) =
     (λ q. rw q (ap (λ (l : List ℕ). cond (claim i && not (eqb i driver)) (i ∷ l) l) r))
     (λ q. rw q r)
 
-module _ (t : Tree) (h : Range) (im : Images) (space : Space) (bus driver a : ℕ) where
+module _ (t : Tree) (im : Images) (space : Space) (bus driver a : ℕ) where
   -- whether the bus's holder counts, the first node that does, and the first behind it
   abbrev pub holder : Bool
-  holder = counted t h im space bus driver a bus
+  holder = counted t im space bus driver a bus
 
   abbrev pub one : ℕ
-  one = nextFrom (onBus t h im space bus driver a) 0 (t .count - 0)
+  one = nextFrom (onBus t im space bus driver a) 0 (t .count - 0)
 
   abbrev pub two : ℕ
-  two = nextFrom (onBus t h im space bus driver a) (one + 1) (t .count - (one + 1))
+  two = nextFrom (onBus t im space bus driver a) (one + 1) (t .count - (one + 1))
 
   -- all claimants, the nodes that count, and those behind the first
   abbrev pub all : List ℕ
-  all = claimants t h im space bus driver a
+  all = claimants t im space bus driver a
 
   nodes : List ℕ
-  nodes = passing (onBus t h im space bus driver a) 0 (t .count)
+  nodes = passing (onBus t im space bus driver a) 0 (t .count)
 
   abbrev behind : List ℕ
-  behind = passing (onBus t h im space bus driver a) (one + 1) (t .count - (one + 1))
+  behind = passing (onBus t im space bus driver a) (one + 1) (t .count - (one + 1))
 
   split : all ≡ cond holder (bus ∷ nodes) nodes
   unfolding claimantsIn nodes
   split =
       ap (λ (l : List ℕ). cond holder (bus ∷ l) l)
-      (claimants-passing t (λ g. claims t h im space bus g a) bus driver 0 (t .count))
+      (claimants-passing t (λ g. claims t im space bus g a) bus driver 0 (t .count))
 
   module _ (few : t .count ≤ 255) where
     whole : t .count - 0 ≡ t .count
@@ -110,24 +112,24 @@ module _ (t : Tree) (h : Range) (im : Images) (space : Space) (bus driver a : �
 
     nodes-none : one ≡ 255 → nodes ≡ []
     unfolding nodes
-    nodes-none e = passing-none (onBus t h im space bus driver a) 0 (t .count) (omega arith) (rw whole at e)
+    nodes-none e = passing-none (onBus t im space bus driver a) 0 (t .count) (omega arith) (rw whole at e)
 
     nodes-one : one ≢ 255 → nodes ≡ one ∷ behind
     unfolding nodes
     nodes-one ne =
-        rw whole (passing-next (onBus t h im space bus driver a) (t .count) 0 (t .count) (omega arith) (rw whole at ne))
+        rw whole (passing-next (onBus t im space bus driver a) (t .count) 0 (t .count) (omega arith) (rw whole at ne))
 
     one-below : one ≢ 255 → one < t .count
-    one-below ne = omega (arith, next-below (onBus t h im space bus driver a) 0 (t .count - 0) ne)
+    one-below ne = omega (arith, next-below (onBus t im space bus driver a) 0 (t .count - 0) ne)
 
     behind-none : one ≢ 255 → two ≡ 255 → behind ≡ []
     behind-none ne e =
-        passing-none (onBus t h im space bus driver a) (one + 1) (t .count - (one + 1)) (omega (arith, one-below ne)) e
+        passing-none (onBus t im space bus driver a) (one + 1) (t .count - (one + 1)) (omega (arith, one-below ne)) e
 
     behind-two : one ≢ 255 → two ≢ 255
-        → behind ≡ two ∷ passing (onBus t h im space bus driver a) (two + 1) (t .count - (two + 1))
+        → behind ≡ two ∷ passing (onBus t im space bus driver a) (two + 1) (t .count - (two + 1))
     behind-two ne ne' =
-        passing-next (onBus t h im space bus driver a) (t .count) (one + 1) (t .count - (one + 1)) (omega (arith, one-below ne)) ne'
+        passing-next (onBus t im space bus driver a) (t .count) (one + 1) (t .count - (one + 1)) (omega (arith, one-below ne)) ne'
 
     -- neither the holder nor a node
     pub claimants-nobody : one ≡ 255 → holder ≡ false → firstTwo all ≡ Nobody

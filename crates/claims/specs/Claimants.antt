@@ -6,7 +6,6 @@ use mathlib.Core.List.{List, [], _∷_}
 use lib.Dec.{eqb}
 use Rattle.rack.specs.Tree.{Tree, parentOf, agents}
 use Rattle.registers.specs.Image.{Images}
-use Rattle.window.specs.declared.Range.{Range}
 use Rattle.claims.specs.declared.Space.{Space}
 use Rattle.claims.specs.declared.Claimants.{Claimants}
 use Rattle.claims.specs.declared.Claimants.the-variants.{Nobody, One, Two}
@@ -19,16 +18,16 @@ claimantsIn claim driver (g ∷ gs) =
     cond (claim g && not (eqb g driver)) (g ∷ claimantsIn claim driver gs) (claimantsIn claim driver gs)
 
 -- the claimants of a bus for a driver, in agent order; their number is the count of demand 3
-abbrev pub claimants : Tree → Range → Images → Space → ℕ → ℕ → ℕ → List ℕ
-claimants t h im space bus driver a = claimantsIn (λ g. claims t h im space bus g a) driver (agents t bus)
+abbrev pub claimants : Tree → Images → Space → ℕ → ℕ → ℕ → List ℕ
+claimants t im space bus driver a = claimantsIn (λ g. claims t im space bus g a) driver (agents t bus)
 
 -- agent g claims and does not drive
-abbrev pub counted : Tree → Range → Images → Space → ℕ → ℕ → ℕ → ℕ → Bool
-counted t h im space bus driver a g = claims t h im space bus g a && not (eqb g driver)
+abbrev pub counted : Tree → Images → Space → ℕ → ℕ → ℕ → ℕ → Bool
+counted t im space bus driver a g = claims t im space bus g a && not (eqb g driver)
 
 -- node i is on the bus, claims and does not drive
-abbrev pub onBus : Tree → Range → Images → Space → ℕ → ℕ → ℕ → ℕ → Bool
-onBus t h im space bus driver a i = eqb (parentOf t i) bus && counted t h im space bus driver a i
+abbrev pub onBus : Tree → Images → Space → ℕ → ℕ → ℕ → ℕ → Bool
+onBus t im space bus driver a i = eqb (parentOf t i) bus && counted t im space bus driver a i
 
 -- the first of the `left` numbers from i on that passes a test; 255, no node's number, where none does
 unfoldable pub nextFrom : (ℕ → Bool) → ℕ → ℕ → ℕ

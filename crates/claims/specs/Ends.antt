@@ -6,7 +6,7 @@ use lib.Dec.{ltb, eqb}
 use Rattle.rack.specs.Node.{isBridge}
 use Rattle.rack.specs.Tree.{Tree}
 use Rattle.registers.specs.Image.{Images, view}
-use Rattle.window.specs.declared.Range.{Range}
+use Rattle.rack.specs.declared.Range.{Range}
 use Rattle.window.specs.declared.Windows.{Windows}
 use Rattle.window.specs.Range.{empty}
 use Rattle.window.specs.Window.{windowsOf}

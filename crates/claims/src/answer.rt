@@ -8,7 +8,7 @@ use crate::DeviceClaims;
 use crate::Reached;
 use crate::Space;
 use crate::Verdict;
-use window::Range;
+use rack::Range;
 use window::cut::cut_range;
 use window::cut::within_range;
 

@@ -1,8 +1,8 @@
 // Whether an agent of a bus claims an address, and how far upwards the answer stays the same.
 pub mod answer;
 
+use rack::Range;
 use window::Area;
-use window::Range;
 use window::Windows;
 
 // Where an access is claimed: by address, or by bus number (Type 1 configuration).

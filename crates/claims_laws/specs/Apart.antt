@@ -13,7 +13,7 @@ use Rattle.rack.specs.declared.Kind.{Kind}
 use Rattle.rack.specs.declared.Kind.the-variants.{Bridge, Device}
 use Rattle.rack.specs.Node.{isBridge}
 use Rattle.rack.specs.Tree.{Tree, agents}
-use Rattle.rack.specs.Placed.{Placed}
+use Rattle.rack.specs.Stored.{Stored}
 use Rattle.rack.specs.Bools.{tested}
 use Rattle.header.specs.declared.Side.{Side}
 use Rattle.header.specs.declared.StatusBit.{StatusBit}
@@ -22,7 +22,6 @@ use Rattle.registers.specs.Image.{Images, imageOf, view, onNode, statusNode}
 use Rattle.registers.specs.Fixed.{lengthsWrong}
 use Rattle.registers_laws.specs.Images.{lengths-right, right-lengths, view-missing, view-length, view-same, view-other, on-lengths}
 use Rattle.registers_laws.specs.Registers.{status-length}
-use Rattle.window.specs.declared.Range.{Range}
 use Rattle.claims.specs.declared.Space.{Space}
 use Rattle.claims.specs.declared.Agent.{Agent}
 use Rattle.claims.specs.Agent.{agentOf}
@@ -31,17 +30,17 @@ use Rattle.claims.specs.Claimants.{claimantsIn, claimants}
 use Rattle.claims_laws.specs.SameBytes.{SameBytes, bridge-same, device-same, set-same}
 
 -- an agent rests on its own view alone
-pub agent-view : (t : Tree) (h : Range) (im im' : Images) (bus g : ℕ) → view t im g ≡ view t im' g
-    → agentOf t h im bus g ≡ agentOf t h im' bus g
+pub agent-view : (t : Tree) (im im' : Images) (bus g : ℕ) → view t im g ≡ view t im' g
+    → agentOf t im bus g ≡ agentOf t im' bus g
 unfolding agentOf
-agent-view t h im im' bus g e = rw e
+agent-view t im im' bus g e = rw e
 
 -- so a change of another node's part leaves it
-pub agent-other : (t : Tree) (h : Range) (im : Images) (bus i g : ℕ) (f : List ℕ → List ℕ)
-    → (i < t .count → length (f (view t im i)) ≡ 64) → Placed t → lengthsWrong t im ≡ false → g ≢ i
-    → agentOf t h (onNode t im i f) bus g ≡ agentOf t h im bus g
-agent-other t h im bus i g f hf pl right ne =
-    agent-view t h (onNode t im i f) im bus g (view-other t im i f hf pl right g ne)
+pub agent-other : (t : Tree) (im : Images) (bus i g : ℕ) (f : List ℕ → List ℕ)
+    → (i < t .count → length (f (view t im i)) ≡ 64) → Stored t → lengthsWrong t im ≡ false → g ≢ i
+    → agentOf t (onNode t im i f) bus g ≡ agentOf t im bus g
+agent-other t im bus i g f hf pl right ne =
+    agent-view t (onNode t im i f) im bus g (view-other t im i f hf pl right g ne)
 
 -- two pairs of images that differ in status bits alone: both lengths, and every node's part but for bits that writing 1 clears
 pub record SameButStatus (t : Tree) (im im' : Images) : Type 0 where
@@ -69,7 +68,7 @@ pub same-right : {t : Tree} {im im' : Images} → SameButStatus t im im' → len
 same-right {t = t} {im = im} {im' = im'} s right = right-lengths t im' (λ k. sym (s .lengths k) ∙ lengths-right t im right k)
 
 -- a status bit set in one node makes no other difference
-pub status-same : (t : Tree) (im : Images) (i : ℕ) (side : Side) (bit : StatusBit) → Placed t → lengthsWrong t im ≡ false
+pub status-same : (t : Tree) (im : Images) (i : ℕ) (side : Side) (bit : StatusBit) → Stored t → lengthsWrong t im ≡ false
     → SameButStatus t im (statusNode t im i side bit)
 status-same t im i side bit pl right =
     record {
@@ -89,27 +88,27 @@ status-same t im i side bit pl right =
     long : i < t .count → length (f (view t im i)) ≡ 64
     long h = status-length (t .node i) (view t im i) side bit ∙ view-length t im pl right i h
 
-module _ (t : Tree) (h : Range) (im im' : Images) (s : SameButStatus t im im') where
+module _ (t : Tree) (im im' : Images) (s : SameButStatus t im im') where
   -- then each agent of each bus is the same
-  pub agent-same : (bus g : ℕ) → agentOf t h im bus g ≡ agentOf t h im' bus g
+  pub agent-same : (bus g : ℕ) → agentOf t im bus g ≡ agentOf t im' bus g
   unfolding agentOf
   agent-same bus g =
       tested (ltb g (t .count)) (λ q. either (t .node g .kind) refl (s .views g (ltb-true g (t .count) q)))
       (λ q.
       let m : t .count ≤ g = ltb-false g (t .count) q in
-      agent-view t h im im' bus g (view-missing t im g m ∙ sym (view-missing t im' g m)))
+      agent-view t im im' bus g (view-missing t im g m ∙ sym (view-missing t im' g m)))
     where
       either : (k : Kind) → t .node g .kind ≡ k → SameBytes (t .node g) (view t im g) (view t im' g)
-          → agentOf t h im bus g ≡ agentOf t h im' bus g
+          → agentOf t im bus g ≡ agentOf t im' bus g
       either Bridge is r = rw (ap isBridge is, bridge-same (t .node g) (view t im g) (view t im' g) r is)
       either Device is r = rw (ap isBridge is, device-same (t .node g) (view t im g) (view t im' g) r is)
 
   -- so is each claim
-  pub claims-same : (space : Space) (bus g a : ℕ) → claims t h im space bus g a ≡ claims t h im' space bus g a
+  pub claims-same : (space : Space) (bus g a : ℕ) → claims t im space bus g a ≡ claims t im' space bus g a
   claims-same space bus g a = ap (λ (x : Agent). claimsOf x space a) (agent-same bus g)
 
   -- and so are the claimants
   pub claimants-same : (space : Space) (bus driver a : ℕ)
-      → claimants t h im space bus driver a ≡ claimants t h im' space bus driver a
+      → claimants t im space bus driver a ≡ claimants t im' space bus driver a
   claimants-same space bus driver a =
       ap (λ (c : ℕ → Bool). claimantsIn c driver (agents t bus)) (fun-ext (λ g. claims-same space bus g a))

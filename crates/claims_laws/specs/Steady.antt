@@ -5,7 +5,7 @@ use mathlib.Core.Bool.{Bool, true, false, not, _&&_, _||_}
 use Prim.Native.Nat.{ℕ, _≤_}
 use Rattle.rack.specs.Tree.{Tree}
 use Rattle.registers.specs.Image.{Images}
-use Rattle.window.specs.declared.Range.{Range}
+use Rattle.rack.specs.declared.Range.{Range}
 use Rattle.window.specs.declared.Windows.{Windows}
 use Rattle.window.specs.Range.{within}
 use Rattle.window.specs.Cut.{cutRange, cutLow}
@@ -122,6 +122,6 @@ pub until-le : (g : Agent) (space : Space) (a e : ℕ) → untilOf g space a e �
 until-le g space a e = agent-kept g space a e .high
 
 -- the same of an agent of a bus
-pub claims-steady : (t : Tree) (h : Range) (im : Images) (space : Space) (bus g a e : ℕ) → a ≤ e
-    → Steady (claims t h im space bus g) a (untilOf (agentOf t h im bus g) space a e)
-claims-steady t h im space bus g a e = steady (agentOf t h im bus g) space a e
+pub claims-steady : (t : Tree) (im : Images) (space : Space) (bus g a e : ℕ) → a ≤ e
+    → Steady (claims t im space bus g) a (untilOf (agentOf t im bus g) space a e)
+claims-steady t im space bus g a e = steady (agentOf t im bus g) space a e

@@ -11,7 +11,7 @@ use lib.Pow.{pow-pos}
 use borrow.Author.Tests.{le-leb, lt-leb, lt-ltb, le-ltb, leb-true, leb-false, ltb-true, ltb-false}
 use Rattle.rack.specs.Bools.{tested, both}
 use Rattle.header.specs.Offset.{IO-BASE, IO-LIMIT, IO-BASE-UPPER16, IO-LIMIT-UPPER16}
-use Rattle.window.specs.declared.Range.{Range}
+use Rattle.rack.specs.declared.Range.{Range}
 use Rattle.window.specs.Range.{within, window}
 use Rattle.window.specs.Window.{ioGranule, windowsOf}
 use Rattle.window.specs.Inside.{inIo}

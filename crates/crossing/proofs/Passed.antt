@@ -1,39 +1,86 @@
--- An unclaimed access on its way back through a bridge, after the code has set its bits.
+-- A route on its way back through a bridge, after the code has set its bits.
 -- Assumes nothing.
 use mathlib.Core.Path.{_≡_, ap, ap₂, _∙_}
-use Prim.Native.Nat.{ℕ, _+_}
+use mathlib.Core.Bool.{Bool, true, false}
+use Prim.Native.Nat.{ℕ, _+_, _/_, _%_}
+use borrow.Author.Tests.{eq-eqb, ne-eqb}
+use lib.ListN.{getD}
+use types.Run.{OneOf}
+use denote.Enum.Declared as declared
 use Rattle.rack.specs.Tree.{Tree}
+use Rattle.header.specs.Offset.{BRIDGE-CONTROL}
 use Rattle.header.specs.declared.Side.{Side}
-use Rattle.header.specs.declared.StatusBit.the-variants.{ReceivedTargetAbort}
-use Rattle.registers.specs.Image.{Images, statusNode}
+use Rattle.header.specs.declared.StatusBit.the-variants.{ReceivedTargetAbort, SignaledTargetAbort}
+use Rattle.registers.specs.Image.{Images, view, statusNode}
 use Rattle.steps.specs.declared.Access.{Access}
 use Rattle.steps.specs.declared.Outcome.{Outcome}
 use Rattle.steps.specs.declared.Outcome.the-variants.{Abort, Done, Target}
-use Rattle.steps.specs.declared.Ending.{Ending}
-use Rattle.steps.specs.declared.Ending.the-variants.{Unclaimed}
-use Rattle.steps.specs.Ending.{Out}
-use Rattle.steps.specs.Cross.{towardsLater, lastOutcome, signalled, lastImages, passed}
+use Rattle.steps.proofs.End as end
+use Rattle.steps.specs.declared.End.{End}
+use Rattle.steps.specs.declared.End.the-variants.{Unclaimed}
+use Rattle.steps.specs.declared.Route.{Route}
+use Rattle.steps.specs.End.{Out, ifUnclaimed}
+use Rattle.steps.specs.Look.{sideOn}
+use Rattle.steps.specs.Cross.{Passed, isPosted, towardsLater, lastOutcome, signalled, lastImages, passed, crossed}
+use Rattle.steps.proofs.Ended.{others, not-unclaimed}
 
-abbrev answer : Ending → Images → Out
-answer e v = record { ending = e; after = v }
+abbrev made : Outcome → Images → Passed
+made o v = record { outcome = o; after = v }
 
-module _ (t : Tree) (im : Images) (x : Access) (bus g c holder : ℕ) where
+abbrev routed : ℕ → End → Images → Out
+routed c e v = record { route = record { crossings = c; end = e }; after = v }
+
+module _ (t : Tree) (im : Images) (x : Access) (g : ℕ) {posted : Bool} (ep : posted ≡ isPosted (x .space) (x .write)) where
+  pub last-posted : posted ≡ true → Done ≡ lastOutcome t im x g
+  unfolding lastOutcome
+  last-posted e = rw (← ep, e)
+
+  module _ {control : ℕ} (e : posted ≡ false) (ec : control ≡ getD (view t im g) BRIDGE-CONTROL 0) where
+    pub last-target : control / 32 % 2 ≡ 1 → Target ≡ lastOutcome t im x g
+    unfolding lastOutcome
+    last-target b = rw (← ep, e, ← ec, eq-eqb (control / 32 % 2) 1 b)
+
+    pub last-done : (control / 32 % 2 ≡ 1 → ⊥) → Done ≡ lastOutcome t im x g
+    unfolding lastOutcome
+    last-done b = rw (← ep, e, ← ec, ne-eqb (control / 32 % 2) 1 b)
+
+module _ (t : Tree) (im : Images) (bus g : ℕ) {v : Images} where
+  pub signal-set : {s : Side} → s ≡ sideOn bus g → v ≡ statusNode t im g s SignaledTargetAbort → v ≡ signalled t im bus g
+  unfolding signalled
+  signal-set es ev = rw (← es) ev
+
+  pub signal-last : {o : Outcome} → o ≡ Target → v ≡ signalled t im bus g → v ≡ lastImages t im bus g o
+  signal-last e ev = rw e ev
+
+module _ (t : Tree) (im : Images) (x : Access) (bus g : ℕ) where
   -- the last bridge
   pub at-last : {o w : Outcome} {v : Images} → o ≡ Abort → w ≡ lastOutcome t im x g → v ≡ lastImages t im bus g w
-      → answer (Unclaimed (c + 1) holder w) v ≡ passed t im x bus g c holder o
+      → made w v ≡ passed t im x bus g o
   unfolding passed
-  at-last eo ew ev = rw eo (ap₂ (λ (k : Outcome) (u : Images). answer (Unclaimed (c + 1) holder k) u) ew (ev ∙ ap (lastImages t im bus g) ew))
+  at-last eo ew ev = rw eo (ap₂ made ew (ev ∙ ap (lastImages t im bus g) ew))
 
-  pub at-done : {o : Outcome} → o ≡ Done → answer (Unclaimed (c + 1) holder Done) im ≡ passed t im x bus g c holder o
+  pub at-done : {o : Outcome} → o ≡ Done → made Done im ≡ passed t im x bus g o
   unfolding passed
   at-done eo = rw eo
 
   -- an earlier bridge
   pub at-earlier : {o : Outcome} {s : Side} {u v : Images} → o ≡ Target → s ≡ towardsLater bus g
-      → u ≡ statusNode t im g s ReceivedTargetAbort → v ≡ signalled t u bus g
-      → answer (Unclaimed (c + 1) holder Target) v ≡ passed t im x bus g c holder o
+      → u ≡ statusNode t im g s ReceivedTargetAbort → v ≡ signalled t u bus g → made Target v ≡ passed t im x bus g o
   unfolding passed
   at-earlier eo es eu ev =
       rw eo
-      (ap (answer (Unclaimed (c + 1) holder Target))
+      (ap (made Target)
       (ev ∙ ap (λ (k : Images). signalled t k bus g) (eu ∙ ap (λ (k : Side). statusNode t im g k ReceivedTargetAbort) es)))
+
+  -- an access that was claimed, or not driven
+  pub crossed-other : (r : Route) → OneOf others (declared.tagOf end.the-type (r .end))
+      → routed (r .crossings + 1) (r .end) im ≡ crossed t im x bus g r
+  unfolding crossed
+  crossed-other r k = rw (not-unclaimed _ _ (r .end) k, not-unclaimed _ _ (r .end) k)
+
+  -- and one that was not claimed
+  pub crossed-unclaimed : (r : Route) {holder : ℕ} {o w : Outcome} {v : Images} → r .end ≡ Unclaimed holder o
+      → made w v ≡ passed t im x bus g o → routed (r .crossings + 1) (Unclaimed holder w) v ≡ crossed t im x bus g r
+  unfolding crossed ifUnclaimed
+  crossed-unclaimed r {holder} e p =
+      rw e (ap (λ (k : Passed). routed (r .crossings + 1) (Unclaimed holder (k .outcome)) (k .after)) p)

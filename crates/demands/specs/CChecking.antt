@@ -18,10 +18,11 @@ use Rattle.overlap.specs.declared.Report.{Report}
 use Rattle.overlap.specs.declared.Report.the-variants.{Pass, Fault}
 use Rattle.overlap.specs.Check.{check}
 use Rattle.guarantee.specs.Quiet.{OneClaimant, FirstFault, passed, passes, faulted}
-use Rattle.rackfile.specs.Load.{rackAlone, hostOf}
+use Rattle.rackfile.specs.Load.{rackAlone}
 use Rattle.simulator.specs.declared.Answer.the-variants.{Checked}
+use Rattle.calls.specs.declared.Reply.the-variants.{Answered}
 use Rattle.answers.specs.Numbers.{eight, numbersOf}
-use Rattle.muzgante.specs.Called.{Called, refusedCall, answeredCall, rackCheck}
+use Rattle.muzgante.specs.Called.{Called, refusedCall, repliedCall, rackCheck}
 use Rattle.demands.specs.CRefusing.{check-refuses}
 
 -- the first number of an answer: 1 to 7 how an access ended, 8 pass, 9 fault; 0 where the call is refused
@@ -59,43 +60,43 @@ module _ (b : List ℕ) (im : Images) where
   -- what an accepted check hands back
   checked : rackCheck b im .code ≡ 0
       → (rackAlone b .refusal ≡ 0) × (imageRefusal (rackAlone b .tree) im ≡ 0)
-      × (rackCheck b im .numbers ≡ numbersOf (Checked (check (rackAlone b .tree) (hostOf b) im)))
+      × (rackCheck b im .numbers ≡ numbersOf (Checked (check (rackAlone b .tree) im)))
   checked c =
       let s = check-refuses b im .accepted c in
       (s .0, s .2, ap (λ (r : Called). r .numbers) (check-refuses b im .accepts (s .0) refl (s .2) refl .0))
 
   -- 'an accepted check passes exactly when the count of claimants is at most one on every bus, ..': its first number is 8
   pub c-check-passed : number (rackCheck b im) ≡ 8
-      → (rackAlone b .refusal ≡ 0) × (imageRefusal (rackAlone b .tree) im ≡ 0) × OneClaimant (rackAlone b .tree) (hostOf b) im
+      → (rackAlone b .refusal ≡ 0) × (imageRefusal (rackAlone b .tree) im ≡ 0) × OneClaimant (rackAlone b .tree) im
   c-check-passed n =
       let s = checked (answers (check-refuses b im .untouched) (λ z. omega arith)) in (
         s .0,
         s .1,
-        passed (rackAlone b .tree) (hostOf b) im
-            (told-pass (check (rackAlone b .tree) (hostOf b) im) (sym (ap (λ (l : List ℕ). getD l 0 0) (s .2)) ∙ n)),
+        passed (rackAlone b .tree) im
+            (told-pass (check (rackAlone b .tree) im) (sym (ap (λ (l : List ℕ). getD l 0 0) (s .2)) ∙ n)),
       )
 
   pub c-check-passes : rackAlone b .refusal ≡ 0 → imageRefusal (rackAlone b .tree) im ≡ 0
-      → OneClaimant (rackAlone b .tree) (hostOf b) im → rackCheck b im ≡ record { code = 0; numbers = eight 8 []; after = im }
+      → OneClaimant (rackAlone b .tree) im → rackCheck b im ≡ record { code = 0; numbers = eight 8 []; after = im }
   c-check-passes z y o =
       check-refuses b im .accepts z refl y refl .0
-      ∙ ap (λ (r : Report). answeredCall (record { answer = Checked r; after = im })) (passes (rackAlone b .tree) (hostOf b) im o)
+      ∙ ap (λ (r : Report). repliedCall (record { reply = Answered (Checked r); after = im })) (passes (rackAlone b .tree) im o)
 
   -- 'If it does not pass, it shows the clash, driver and two claimants that document 01 names first'
   pub c-check-faulted : (bus : ℕ) (space : Space) (a driver x y : ℕ)
       → rackCheck b im .numbers ≡ eight 9 (bus ∷ spaceNumber space ∷ a ∷ driver ∷ x ∷ y ∷ [])
-      → FirstFault (rackAlone b .tree) (hostOf b) im bus space a driver x y
+      → FirstFault (rackAlone b .tree) im bus space a driver x y
   c-check-faulted bus space a driver x y n =
       let m : number (rackCheck b im) ≡ 9 = ap (λ (l : List ℕ). getD l 0 0) n in
       let s = checked (answers (check-refuses b im .untouched) (λ z. omega arith)) in
-      faulted (rackAlone b .tree) (hostOf b) im bus space a driver x y
-      (told-fault bus space a driver x y (check (rackAlone b .tree) (hostOf b) im) (sym (s .2) ∙ n))
+      faulted (rackAlone b .tree) im bus space a driver x y
+      (told-fault bus space a driver x y (check (rackAlone b .tree) im) (sym (s .2) ∙ n))
 
   -- and it shows one whenever it is accepted and does not pass
   pub c-check-shows : rackCheck b im .code ≡ 0 → (number (rackCheck b im) ≡ 8 → ⊥)
       → (bus : ℕ) × (space : Space) × (a : ℕ) × (driver : ℕ) × (x : ℕ) × (y : ℕ)
       × (rackCheck b im .numbers ≡ eight 9 (bus ∷ spaceNumber space ∷ a ∷ driver ∷ x ∷ y ∷ []))
-  c-check-shows c ne = shows (check (rackAlone b .tree) (hostOf b) im) (checked c .2)
+  c-check-shows c ne = shows (check (rackAlone b .tree) im) (checked c .2)
     where
       shows : (r : Report) → rackCheck b im .numbers ≡ numbersOf (Checked r)
           → (bus : ℕ) × (space : Space) × (a : ℕ) × (driver : ℕ) × (x : ℕ) × (y : ℕ)

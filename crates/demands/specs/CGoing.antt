@@ -6,27 +6,28 @@ use Prim.Native.Nat.{ℕ, _+_, _^_, _≤_, _<_}
 use native.Mathlib.Omega.{arith}
 use lib.Dec.{eqb}
 use lib.ListN.{getD}
-use borrow.Author.Tests.{eq-eqb}
+use native.Mathlib.Nat.{le-refl}
 use Rattle.rack.specs.Bools.{tested}
+use Rattle.rack.specs.FirstLaws.{or-next, unless-none}
 use Rattle.rack.specs.Tree.{depth, greatestDepth}
 use Rattle.registers.specs.Image.{Images}
 use Rattle.claims_laws.specs.Apart.{SameButStatus}
-use Rattle.steps.specs.declared.Ending.{Ending}
-use Rattle.steps.specs.declared.Ending.the-variants.{Data, Stored, Owner, Host, Unclaimed, Clash, Silent}
-use Rattle.steps.specs.Ending.{crossingsOf}
 use Rattle.overlap.specs.declared.Report.the-variants.{Pass, Fault}
 use Rattle.rackfile.specs.Number.{byteIn, dwordIn, qwordIn}
-use Rattle.rackfile.specs.Events.{eventIn, eventBytes, eventWrong}
-use Rattle.rackfile.specs.Load.{rackAlone, hostOf}
-use Rattle.rackfile.specs.LoadLaws.{alone-accepted}
-use Rattle.simulator.specs.declared.Answer.{Answer}
-use Rattle.simulator.specs.declared.Answer.the-variants.{Refused, Ended, Checked}
-use Rattle.simulator.specs.Answers.{answerNumber, Answered}
-use Rattle.calls.specs.Call.{runIn, checkIn}
-use Rattle.answers.specs.Numbers.{numbersOf}
-use Rattle.muzgante.specs.Called.{Called, answeredCall, rackRun, rackCheck}
+use Rattle.rackfile.specs.Events.{eventIn, eventBytes}
+use Rattle.rackfile.specs.Load.{rackAlone}
+use Rattle.rackfile.specs.LoadLaws.{alone-accepted, alone-stored}
+use Rattle.simulator.specs.declared.Ending.{Ending}
+use Rattle.simulator.specs.declared.Ending.the-variants.{Data, Stored, Owner, Host, Unclaimed, Clash, Silent}
+use Rattle.simulator.specs.declared.Answer.the-variants.{Ended, Checked}
+use Rattle.simulator.specs.Answers.{Answered}
+use Rattle.calls.specs.declared.Reply.{Reply}
+use Rattle.calls.specs.declared.Reply.the-variants as reply
+use Rattle.calls.specs.Call.{eventRefusal, ran, runIn, checkIn}
+use Rattle.answers.specs.Numbers.{numbersOf, replyNumbers}
+use Rattle.muzgante.specs.Called.{Called, repliedCall, rackRun, rackCheck}
 use Rattle.demands.specs.Refusing.{accepts}
-use Rattle.demands.specs.Checking.{Fits, check-passes, event-agrees}
+use Rattle.demands.specs.Checking.{Fits, replyNumber, check-passes, event-agrees}
 use Rattle.demands.specs.Going.{Goes, event-goes, crossings, startBus, event-crossings}
 use Rattle.demands.specs.CRefusing.{run-refuses}
 use Rattle.demands.specs.CChecking.{number, answers, c-check-passed}
@@ -49,39 +50,38 @@ event-fits b bytes o =
     qword-fits : (o : ℕ) → qwordIn b o < 2 ^ 64
     qword-fits o = omega (arith, dword-fits o, dword-fits (o + 4))
 
--- the first two numbers of an answer
-first : (a : Answer) → getD (numbersOf a) 0 0 ≡ answerNumber a
-first (Refused n) = refl
-first (Ended e) = refl
-first (Checked r) = refl
+-- the first two numbers of a reply
+first : (r : Reply) → getD (replyNumbers r) 0 0 ≡ replyNumber r
+first (reply.Refused n) = refl
+first (reply.Answered a) = refl
 
-second : (a : Answer) → answerNumber a ≤ 6 → getD (numbersOf a) 1 0 ≡ crossings a
-second (Refused n) l = refl
-second (Ended e) l = ending e
+second : (r : Reply) → replyNumber r ≤ 6 → getD (replyNumbers r) 1 0 ≤ crossings r
+second (reply.Refused n) l = le-refl 0
+second (reply.Answered (Ended c e)) l = ending e
   where
-    ending : (e : Ending) → getD (numbersOf (Ended e)) 1 0 ≡ crossingsOf e
-    ending (Data c v) = refl
-    ending (Stored c) = refl
-    ending (Owner c n r o) = refl
-    ending (Host c o) = refl
-    ending (Unclaimed c h o) = refl
-    ending (Clash c h x y) = refl
-    ending Silent = refl
-second (Checked Pass) l = absurd (omega arith)
-second (Checked (Fault bus space a driver x y)) l = absurd (omega arith)
+    ending : (e : Ending) → getD (numbersOf (Ended c e)) 1 0 ≤ c
+    ending (Data v) = le-refl c
+    ending Stored = le-refl c
+    ending (Owner n r o) = le-refl c
+    ending (Host o) = le-refl c
+    ending (Unclaimed h o) = le-refl c
+    ending (Clash h x y) = le-refl c
+    ending Silent = omega arith
+second (reply.Answered (Checked Pass)) l = absurd (omega arith)
+second (reply.Answered (Checked (Fault bus space a driver x y))) l = absurd (omega arith)
 
 module _ (b event : List ℕ) (im : Images) where
   -- what an accepted run hands back, and what it says
-  ran : rackRun b event im .code ≡ 0
-      → rackRun b event im ≡ answeredCall (runIn (rackAlone b .tree) (hostOf b) im (eventIn event 0))
+  handed : rackRun b event im .code ≡ 0
+      → rackRun b event im ≡ repliedCall (runIn (rackAlone b .tree) im (eventIn event 0))
   unfolding rackRun
-  ran c =
+  handed c =
       let s = run-refuses b event im .accepted c in
-      rw (eq-eqb (rackAlone b .refusal) 0 (s .0), eq-eqb (eventBytes event) 0 (s .1))
+      unless-none _ _ (or-next (rackAlone b .refusal) (eventBytes event) (s .0) ∙ s .1)
 
   said : rackRun b event im .code ≡ 0
-      → number (rackRun b event im) ≡ answerNumber (runIn (rackAlone b .tree) (hostOf b) im (eventIn event 0) .answer)
-  said c = ap number (ran c) ∙ first (runIn (rackAlone b .tree) (hostOf b) im (eventIn event 0) .answer)
+      → number (rackRun b event im) ≡ replyNumber (runIn (rackAlone b .tree) im (eventIn event 0) .reply)
+  said c = ap number (handed c) ∙ first (runIn (rackAlone b .tree) im (eventIn event 0) .reply)
 
   -- 'The crossings carried in its answer are at most the depth of the starting bus plus the greatest depth in the rack': the endings 1
   -- to 6 carry them as their second number
@@ -90,35 +90,33 @@ module _ (b event : List ℕ) (im : Images) where
       ≤ depth (rackAlone b .tree) (startBus (rackAlone b .tree) (eventIn event 0)) + greatestDepth (rackAlone b .tree)
   c-run-crossings c l =
       let t = rackAlone b .tree in
-      let a = runIn t (hostOf b) im (eventIn event 0) .answer in
-      let m : answerNumber a ≤ 6 = omega (arith, said c) in
-      omega (arith, event-crossings t (hostOf b) im (eventIn event 0), second a m, ap (λ (r : Called). getD (r .numbers) 1 0) (ran c))
+      let a = runIn t im (eventIn event 0) .reply in
+      let m : replyNumber a ≤ 6 = omega (arith, said c) in
+      omega (arith, event-crossings t (λ ok. alone-stored b (run-refuses b event im .accepted c .0)) im (eventIn event 0), second a m, ap (λ (r : Called). getD (r .numbers) 1 0) (handed c))
 
 -- 'In a passed rack, with the registers it passed with, status bits aside'
 module _ (b event : List ℕ) (im im' : Images) (pass : number (rackCheck b im) ≡ 8) (same : SameButStatus (rackAlone b .tree) im im')
     (bytes : (k : ℕ) → getD event k 0 < 256) where
-  passed : checkIn (rackAlone b .tree) (hostOf b) im ≡ Checked Pass
+  passed : checkIn (rackAlone b .tree) im ≡ reply.Answered (Checked Pass)
   passed =
       let s = c-check-passed b im pass in
-      check-passes (rackAlone b .tree) (hostOf b) im (alone-accepted b (s .0)) (s .1) (s .2)
+      check-passes (rackAlone b .tree) im (alone-accepted b (s .0)) (s .1) (s .2)
 
   -- 'every accepted configuration, memory or I/O access, whichever party starts it, is never driven, ends unclaimed, or ends at its one
   -- owner'
   pub c-run-goes : rackRun b event im' .code ≡ 0
-      → (r : Answered) × (rackRun b event im' ≡ answeredCall r) × Goes (rackAlone b .tree) (hostOf b) im' (eventIn event 0) r
+      → (r : Answered) × (rackRun b event im' ≡ repliedCall (ran r)) × Goes (rackAlone b .tree) im' (eventIn event 0) r
   c-run-goes c =
       let t = rackAlone b .tree in
       let e = eventIn event 0 in
       let s = run-refuses b event im' .accepted c in
-      let z = accepts t im' (eventWrong t e) (alone-accepted b (s .0)) (s .2) (s .3) in (
-        runIn t (hostOf b) im' e,
-        ran b event im' c,
-        event-goes t (hostOf b) im im' passed same e (event-fits event bytes 0) z,
-      )
+      let z = accepts t im' (eventRefusal t e) (alone-accepted b (s .0)) (s .2) (s .3) in
+      let g = event-goes t (λ ok. alone-stored b (s .0)) im im' passed same e (event-fits event bytes 0) z in
+      (g .0, handed b event im' c ∙ ap repliedCall (g .1), g .2)
 
   -- 'and never in a clash'
   pub c-run-agrees : number (rackRun b event im') ≡ 6 → ⊥
   c-run-agrees n =
       let c = answers (run-refuses b event im' .untouched) (λ z. omega arith) in
-      event-agrees (rackAlone b .tree) (hostOf b) im im' passed same (eventIn event 0) (event-fits event bytes 0)
+      event-agrees (rackAlone b .tree) (λ ok. alone-stored b (run-refuses b event im' .accepted c .0)) im im' passed same (eventIn event 0) (event-fits event bytes 0)
       (sym (said b event im' c) ∙ n)

@@ -1,71 +1,87 @@
 -- Demand 3 over the calls `run_check` and `run_event`.
 -- Assumes nothing.
 use mathlib.Core.Path.{_≡_, refl, sym, ap, _∙_}
-use mathlib.Core.Bool.{Bool, true, false, not, _&&_}
+use mathlib.Core.Bool.{Bool, true, false, not, _&&_, true≢false}
 use mathlib.Core.Logic.{inl, inr}
 use Prim.Native.Nat.{ℕ, _^_, _≤_, _<_}
 use native.Mathlib.Omega.{arith}
 use lib.Dec.{ltb, eqb}
-use borrow.Author.Tests.{eqb-true, eqb-false, eq-eqb, ne-eqb, ltb-true}
+use borrow.Author.Tests.{eqb-true, eqb-false, ltb-true}
+use Rattle.rack.specs.First.{unless}
+use Rattle.rack.specs.FirstLaws.{unless-number, unless-none}
 use Rattle.rack.specs.Bools.{tested, opposite, both, neither}
 use Rattle.rack.specs.Node.{isBridge}
 use Rattle.rack.specs.Tree.{Tree, host}
+use Rattle.rack.specs.Stored.{Stored}
 use Rattle.rack.specs.Refusal.{rackRefusal}
 use Rattle.registers.specs.Image.{Images}
 use Rattle.registers.specs.Fixed.{imageRefusal}
-use Rattle.window.specs.declared.Range.{Range}
 use Rattle.claims.specs.declared.Space.{Space}
+use Rattle.claims.specs.declared.Space.the-variants as space
 use Rattle.claims_laws.specs.Apart.{SameButStatus}
+use Rattle.steps.specs.declared.Access.{Access}
+use Rattle.steps.specs.declared.End.{End}
+use Rattle.steps.specs.declared.End.the-variants as end
+use Rattle.steps.specs.End.{Out}
+use Rattle.routes.specs.Route.{configure, access}
 use Rattle.overlap.specs.declared.Report.{Report}
 use Rattle.overlap.specs.declared.Report.the-variants.{Pass, Fault}
 use Rattle.overlap.specs.Check.{check}
 use Rattle.guarantee.specs.Quiet.{OneClaimant, FirstFault, passed, passes, faulted}
+use Rattle.guarantee.specs.Ways.{isClash}
 use Rattle.guarantee.specs.PassedRack.{Initiator, access-agrees, configure-agrees}
 use Rattle.rackfile.specs.declared.Event.{Event}
 use Rattle.rackfile.specs.declared.Event.the-variants.{Write, Read, Memory, Io, Check}
 use Rattle.rackfile.specs.Events.{initiates, accessWrong, eventWrong}
-use Rattle.simulator.specs.declared.Answer.the-variants.{Refused, Checked}
+use Rattle.simulator.specs.declared.Answer.the-variants.{Checked}
 use Rattle.simulator.specs.Answers.{answerNumber}
-use Rattle.simulator.specs.Run.{configuration, addressed, eventRun}
-use Rattle.calls.specs.Call.{refusalBy, runIn, checkIn}
-use Rattle.demands.specs.Refusing.{accepted, accepts}
+use Rattle.simulator.specs.Run.{configuration, addressed, registerOf, endedAt, ended, eventRun}
+use Rattle.calls.specs.declared.Reply.{Reply}
+use Rattle.calls.specs.declared.Reply.the-variants.{Refused, Answered}
+use Rattle.calls.specs.Call.{refusalBy, eventRefusal, runIn, checkIn}
+use Rattle.demands.specs.Refusing.{accepted, accepts, field-right, event-untouched, event-runs}
 
-module _ (t : Tree) (h : Range) (im : Images) where
+module _ (t : Tree) (im : Images) where
   -- a check that is not refused says what the check says
-  check-accepted : refusalBy t im false ≡ 0 → checkIn t h im ≡ Checked (check t h im)
-  unfolding runIn eventWrong eventRun
-  check-accepted e = rw (eq-eqb (refusalBy t im false) 0 e, checkIn)
+  check-accepted : refusalBy t im 0 ≡ 0 → checkIn t im ≡ Answered (Checked (check t im))
+  unfolding checkIn
+  check-accepted z = unless-none _ _ z
 
-  check-refused : (refusalBy t im false ≡ 0 → ⊥) → checkIn t h im ≡ Refused (refusalBy t im false)
-  unfolding runIn eventWrong
-  check-refused ne = rw (ne-eqb (refusalBy t im false) 0 ne, checkIn)
+  check-refused : (refusalBy t im 0 ≡ 0 → ⊥) → checkIn t im ≡ Refused (refusalBy t im 0)
+  unfolding checkIn
+  check-refused ne = unless-number _ _ ne
 
-  pub said : (r : Report) → checkIn t h im ≡ Checked r → (refusalBy t im false ≡ 0) × (check t h im ≡ r)
+  -- the check is the event of kind 8
+  pub check-is-event : checkIn t im ≡ runIn t im Check .reply
+  unfolding checkIn runIn eventWrong eventRun unless
+  check-is-event = tested (eqb (refusalBy t im 0) 0) (λ q. rw q) (λ q. rw q)
+
+  pub said : (r : Report) → checkIn t im ≡ Answered (Checked r) → (refusalBy t im 0 ≡ 0) × (check t im ≡ r)
   said r e =
-      tested (eqb (refusalBy t im false) 0)
+      tested (eqb (refusalBy t im 0) 0)
       (λ q.
-      let z = eqb-true (refusalBy t im false) 0 q in
-      let p : Checked (check t h im) ≡ Checked r = sym (check-accepted z) ∙ e in
+      let z = eqb-true (refusalBy t im 0) 0 q in
+      let p : Answered (Checked (check t im)) ≡ Answered (Checked r) = sym (check-accepted z) ∙ e in
       (z, cc))
       (λ q.
-      let p : Refused (refusalBy t im false) ≡ Checked r = sym (check-refused (eqb-false (refusalBy t im false) 0 q)) ∙ e in
+      let p : Refused (refusalBy t im 0) ≡ Answered (Checked r) = sym (check-refused (eqb-false (refusalBy t im 0) 0 q)) ∙ e in
       let n : _≡_ {A = ℕ} 0 1 = cc in
       absurd (omega arith))
 
   -- 'an accepted check passes exactly when the count of claimants is at most one on every bus, ..'
-  pub check-passed : checkIn t h im ≡ Checked Pass → (rackRefusal t ≡ 0) × (imageRefusal t im ≡ 0) × OneClaimant t h im
+  pub check-passed : checkIn t im ≡ Answered (Checked Pass) → (rackRefusal t ≡ 0) × (imageRefusal t im ≡ 0) × OneClaimant t im
   check-passed e =
       let s = said Pass e in
-      let a = accepted t im false (s .0) in
-      (a .0, a .1, passed t h im (s .1))
+      let a = accepted t im 0 (s .0) in
+      (a .0, a .1, passed t im (s .1))
 
-  pub check-passes : rackRefusal t ≡ 0 → imageRefusal t im ≡ 0 → OneClaimant t h im → checkIn t h im ≡ Checked Pass
-  check-passes z y o = check-accepted (accepts t im false z y refl) ∙ ap Checked (passes t h im o)
+  pub check-passes : rackRefusal t ≡ 0 → imageRefusal t im ≡ 0 → OneClaimant t im → checkIn t im ≡ Answered (Checked Pass)
+  check-passes z y o = check-accepted (accepts t im 0 z y refl) ∙ ap (λ (r : Report). Answered (Checked r)) (passes t im o)
 
   -- 'If it does not pass, it shows the clash, driver and two claimants that document 01 names first'
-  pub check-faulted : (bus : ℕ) (space : Space) (a driver x y : ℕ) → checkIn t h im ≡ Checked (Fault bus space a driver x y)
-      → FirstFault t h im bus space a driver x y
-  check-faulted bus space a driver x y e = faulted t h im bus space a driver x y (said (Fault bus space a driver x y) e .1)
+  pub check-faulted : (bus : ℕ) (space : Space) (a driver x y : ℕ) → checkIn t im ≡ Answered (Checked (Fault bus space a driver x y))
+      → FirstFault t im bus space a driver x y
+  check-faulted bus space a driver x y e = faulted t im bus space a driver x y (said (Fault bus space a driver x y) e .1)
 
 -- the fields of an event fit their types
 abbrev pub Fits : Event → Type 0
@@ -94,19 +110,49 @@ module _ (t : Tree) where
           let r = both (ltb i (t .count)) _ s in
           inr (ltb-true i (t .count) (r .0), opposite (isBridge (t .node i .kind)) (r .1))
 
-module _ (t : Tree) (h : Range) (im im' : Images) (pass : checkIn t h im ≡ Checked Pass) (same : SameButStatus t im im') where
-  run-agrees : (e : Event) → Fits e → rackRefusal t ≡ 0 → eventWrong t e ≡ false → check t h im ≡ Pass
-      → answerNumber (eventRun t h im' e .answer) ≡ 6 → ⊥
+-- 0 is a refusal's number
+abbrev pub replyNumber : Reply → ℕ
+replyNumber (Refused n) = 0
+replyNumber (Answered a) = answerNumber a
+
+-- an access that does not clash does not answer so
+ended-agrees : (t : Tree) (im : Images) (x : Access) (c : ℕ) (e : End) → isClash e ≡ false
+    → answerNumber (endedAt t im x c e .answer) ≡ 6 → ⊥
+unfolding endedAt registerOf
+ended-agrees t im x c (end.Node g) q n = by (x .write) refl
+  where
+    by : (b : Bool) → x .write ≡ b → ⊥
+    by true w = let z : _≡_ {A = ℕ} 2 6 = rw w at n in omega arith
+    by false w = let z : _≡_ {A = ℕ} 1 6 = rw w at n in omega arith
+ended-agrees t im x c (end.Owner g r o) q n = omega arith
+ended-agrees t im x c (end.Host o) q n = omega arith
+ended-agrees t im x c (end.Unclaimed k o) q n = omega arith
+ended-agrees t im x c (end.Clash k y z) q n = true≢false q
+ended-agrees t im x c end.Silent q n = omega arith
+
+-- a tree that stores what its nodes say, once it is accepted: that of a decoded rack does (`accepted-stored`), as does one that is read
+-- (`alone-stored`)
+module _ (t : Tree) (stored : rackRefusal t ≡ 0 → Stored t) (im im' : Images) (pass : checkIn t im ≡ Answered (Checked Pass))
+    (same : SameButStatus t im im') where
+  routed-agrees : (x : Access) (o : Out) → isClash (o .route .end) ≡ false → answerNumber (ended t x o .answer) ≡ 6 → ⊥
+  routed-agrees x o = ended-agrees t (o .after) x (o .route .crossings) (o .route .end)
+
+  run-agrees : (e : Event) → Fits e → rackRefusal t ≡ 0 → Stored t → eventWrong t e ≡ false → check t im ≡ Pass
+      → answerNumber (eventRun t im' e .answer) ≡ 6 → ⊥
   unfolding eventRun eventWrong
-  run-agrees (Write bus device register enables put) f ok w p =
-      configure-agrees t h ok im p im' same (configuration true bus device register enables put) (refl, f)
-  run-agrees (Read bus device register) f ok w p =
-      configure-agrees t h ok im p im' same (configuration false bus device register 0 0) (refl, f)
-  run-agrees (Memory i direction a) f ok w p =
-      access-agrees t h ok im p im' same (addressed _ direction a) (inl (refl, f)) i (initiator t i direction w)
-  run-agrees (Io i direction a) f ok w p =
-      access-agrees t h ok im p im' same (addressed _ direction a) (inr (refl, f)) i (initiator t i direction w)
-  run-agrees Check f ok w p = report (check t h im')
+  run-agrees (Write bus device register enables put) f ok st w p =
+      let x = configuration true bus device register enables put in
+      routed-agrees x (configure t im' x) (configure-agrees t ok st im p im' same x (refl, f))
+  run-agrees (Read bus device register) f ok st w p =
+      let x = configuration false bus device register 0 0 in
+      routed-agrees x (configure t im' x) (configure-agrees t ok st im p im' same x (refl, f))
+  run-agrees (Memory i direction a) f ok st w p =
+      let x = addressed space.Memory direction a in
+      routed-agrees x (access t im' x i) (access-agrees t ok st im p im' same x (inl (refl, f)) i (initiator t i direction w))
+  run-agrees (Io i direction a) f ok st w p =
+      let x = addressed space.Io direction a in
+      routed-agrees x (access t im' x i) (access-agrees t ok st im p im' same x (inr (refl, f)) i (initiator t i direction w))
+  run-agrees Check f ok st w p = report (check t im')
     where
       report : (r : Report) → answerNumber (Checked r) ≡ 6 → ⊥
       report Pass n = omega arith
@@ -114,12 +160,14 @@ module _ (t : Tree) (h : Range) (im im' : Images) (pass : checkIn t h im ≡ Che
 
   -- 'In a passed rack, with the registers it passed with, status bits aside, every accepted .. access .. never in a clash': no event
   -- answers with number 6
-  pub event-agrees : (e : Event) → Fits e → answerNumber (runIn t h im' e .answer) ≡ 6 → ⊥
-  unfolding runIn
+  pub event-agrees : (e : Event) → Fits e → replyNumber (runIn t im' e .reply) ≡ 6 → ⊥
   event-agrees e f n =
-      tested (eqb (refusalBy t im' (eventWrong t e)) 0)
+      tested (eqb (refusalBy t im' (eventRefusal t e)) 0)
       (λ q.
-      let s = said t h im Pass pass in
-      let a = accepted t im' (eventWrong t e) (eqb-true (refusalBy t im' (eventWrong t e)) 0 q) in
-      run-agrees e f (a .0) (a .2) (s .1) (rw q at n))
-      (λ q. let z : _≡_ {A = ℕ} 0 6 = rw q at n in omega arith)
+      let z = eqb-true (refusalBy t im' (eventRefusal t e)) 0 q in
+      let a = accepted t im' (eventRefusal t e) z in
+      run-agrees e f (a .0) (stored (a .0)) (field-right (a .2)) (said t im Pass pass .1) (rw (event-runs t im' e z) at n))
+      (λ q.
+      let ne = eqb-false (refusalBy t im' (eventRefusal t e)) 0 q in
+      let z : _≡_ {A = ℕ} 0 6 = rw (event-untouched t im' e ne) at n in
+      omega arith)

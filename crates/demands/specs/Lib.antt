@@ -1,6 +1,8 @@
 pub mod Refusing
 pub mod Checking
 pub mod Going
+pub mod Later
+pub mod Decoded
 pub mod CRefusing
 pub mod CChecking
 pub mod CGoing

@@ -1,97 +1,100 @@
 -- Demand 1 over the calls: in which order they refuse, when they accept, and that 'a refusal leaves every image untouched'.
 -- Assumes nothing.
-use mathlib.Core.Path.{_≡_, refl, sym, _∙_}
+use mathlib.Core.Path.{_≡_, refl, _∙_}
 use mathlib.Core.Bool.{Bool, true, false}
 use mathlib.Core.List.{[], _∷_}
 use Prim.Native.Nat.{ℕ}
 use native.Mathlib.Omega.{arith}
-use lib.Dec.{eqb}
-use borrow.Author.Tests.{eqb-true, eqb-false, eq-eqb, ne-eqb}
-use Rattle.rack.specs.Bools.{tested}
+use Rattle.rack.specs.First.{_when_, unless}
+use Rattle.rack.specs.FirstLaws.{when-not, or-this, or-next, or-none, unless-number, unless-none}
 use Rattle.rack.specs.Tree.{Tree}
 use Rattle.rack.specs.Refusal.{rackRefusal}
 use Rattle.registers.specs.Image.{Images}
 use Rattle.registers.specs.Fixed.{imageRefusal}
-use Rattle.window.specs.declared.Range.{Range}
 use Rattle.rackfile.specs.declared.Event.{Event}
-use Rattle.rackfile.specs.Events.{eventWrong}
-use Rattle.simulator.specs.declared.Answer.the-variants.{Refused}
+use Rattle.simulator.specs.Run.{eventRun}
 use Rattle.claims.specs.Ends.{windowEnds}
+use Rattle.calls.specs.declared.Reply.the-variants as reply
+use Rattle.calls.specs.declared.Number.the-variants as number
 use Rattle.calls.specs.declared.Bounds.the-variants as bounds
-use Rattle.calls.specs.Call.{refusalBy, missing, storeWrong, windowWrong, numberOr, numberCode, numberValues, storedIn, viewIn, boundsOf, boundsIn, runIn}
+use Rattle.calls.specs.Call.{refusalBy, storeRefusal, viewRefusal, windowRefusal, eventRefusal, numberCode, numberValues, storedIn, viewIn, boundsOf, boundsIn, ran, runIn}
 
-module _ (t : Tree) (im : Images) (wrong : Bool) where
+module _ (t : Tree) (im : Images) (own : ℕ) where
   -- 6 to 10 of the rack come first
-  pub by-rack : (rackRefusal t ≡ 0 → ⊥) → refusalBy t im wrong ≡ rackRefusal t
+  pub by-rack : (rackRefusal t ≡ 0 → ⊥) → refusalBy t im own ≡ rackRefusal t
   unfolding refusalBy
-  by-rack ne = rw (ne-eqb (rackRefusal t) 0 ne)
+  by-rack ne = or-this _ _ ne
 
   -- then 11 and 12 of the images
-  pub by-image : rackRefusal t ≡ 0 → (imageRefusal t im ≡ 0 → ⊥) → refusalBy t im wrong ≡ imageRefusal t im
+  pub by-image : rackRefusal t ≡ 0 → (imageRefusal t im ≡ 0 → ⊥) → refusalBy t im own ≡ imageRefusal t im
   unfolding refusalBy
-  by-image z ne = rw (eq-eqb (rackRefusal t) 0 z, ne-eqb (imageRefusal t im) 0 ne)
+  by-image z ne = or-next _ _ z ∙ or-this _ _ ne
 
-  -- then 13 of what the call names
-  pub by-field : rackRefusal t ≡ 0 → imageRefusal t im ≡ 0 → wrong ≡ true → refusalBy t im wrong ≡ 13
+  -- then the number of what the call names
+  pub by-own : rackRefusal t ≡ 0 → imageRefusal t im ≡ 0 → refusalBy t im own ≡ own
   unfolding refusalBy
-  by-field z y w = rw (eq-eqb (rackRefusal t) 0 z, eq-eqb (imageRefusal t im) 0 y, w)
+  by-own z y = or-next _ _ z ∙ or-next _ _ y
 
-  -- a call is accepted where none of them holds
-  pub accepts : rackRefusal t ≡ 0 → imageRefusal t im ≡ 0 → wrong ≡ false → refusalBy t im wrong ≡ 0
-  unfolding refusalBy
-  accepts z y w = rw (eq-eqb (rackRefusal t) 0 z, eq-eqb (imageRefusal t im) 0 y, w)
+  -- a call is accepted where none of them applies
+  pub accepts : rackRefusal t ≡ 0 → imageRefusal t im ≡ 0 → own ≡ 0 → refusalBy t im own ≡ 0
+  accepts z y x = by-own z y ∙ x
 
   -- and only there
-  pub accepted : refusalBy t im wrong ≡ 0 → (rackRefusal t ≡ 0) × (imageRefusal t im ≡ 0) × (wrong ≡ false)
+  pub accepted : refusalBy t im own ≡ 0 → (rackRefusal t ≡ 0) × (imageRefusal t im ≡ 0) × (own ≡ 0)
+  unfolding refusalBy
   accepted e =
-      tested (eqb (rackRefusal t) 0)
-      (λ q.
-      let z = eqb-true (rackRefusal t) 0 q in
-      tested (eqb (imageRefusal t im) 0)
-      (λ p.
-      let y = eqb-true (imageRefusal t im) 0 p in
-      tested wrong (λ w. absurd (thirteen (sym (by-field z y w) ∙ e))) (λ w. (z, y, w)))
-      (λ p. let n = eqb-false (imageRefusal t im) 0 p in absurd (n (sym (by-image z n) ∙ e))))
-      (λ q. let n = eqb-false (rackRefusal t) 0 q in absurd (n (sym (by-rack n) ∙ e)))
-    where
-      thirteen : _≡_ {A = ℕ} 13 0 → ⊥
-      thirteen e = omega arith
+      let s = or-none (rackRefusal t) _ e in
+      let r = or-none (imageRefusal t im) own (s .1) in
+      (s .0, r .0, r .1)
+
+-- that number is 13 exactly where its test holds
+pub field-wrong : {b : Bool} → b ≡ true → 13 when b ≡ 13
+field-wrong e = rw e
+
+pub field-right : {b : Bool} → 13 when b ≡ 0 → b ≡ false
+field-right {b} e = when-not 13 b (λ z. omega arith) e
 
 -- a register read and sizing: a refusal is told by its number and with no value
 pub number-refused : (refusal value : ℕ) → (refusal ≡ 0 → ⊥)
-    → (numberCode (numberOr refusal value) ≡ refusal) × (numberValues (numberOr refusal value) ≡ [])
-number-refused refusal value ne = rw (ne-eqb refusal 0 ne) (refl, refl)
+    → (numberCode (unless refusal (number.Value value) number.Refused) ≡ refusal)
+    × (numberValues (unless refusal (number.Value value) number.Refused) ≡ [])
+number-refused refusal value ne = rw (unless-number (number.Value value) number.Refused ne) (refl, refl)
 
 -- otherwise 0 and the value
 pub number-accepted : (refusal value : ℕ) → refusal ≡ 0
-    → (numberCode (numberOr refusal value) ≡ 0) × (numberValues (numberOr refusal value) ≡ value ∷ [])
-number-accepted refusal value z = rw (eq-eqb refusal 0 z) (refl, refl)
+    → (numberCode (unless refusal (number.Value value) number.Refused) ≡ 0)
+    × (numberValues (unless refusal (number.Value value) number.Refused) ≡ value ∷ [])
+number-accepted refusal value z = rw (unless-none (number.Value value) number.Refused z) (refl, refl)
 
 module _ (t : Tree) (im : Images) where
   -- both ends of a window or region: the refusal's number, or what the registers give
-  pub ends-refused : (i k : ℕ) → (refusalBy t im (windowWrong t i k) ≡ 0 → ⊥)
-      → boundsIn t im i k ≡ bounds.Refused (refusalBy t im (windowWrong t i k))
+  pub ends-refused : (i k : ℕ) → (refusalBy t im (windowRefusal t i k) ≡ 0 → ⊥)
+      → boundsIn t im i k ≡ bounds.Refused (refusalBy t im (windowRefusal t i k))
   unfolding boundsIn
-  ends-refused i k ne = rw (ne-eqb (refusalBy t im (windowWrong t i k)) 0 ne)
+  ends-refused i k ne = unless-number _ _ ne
 
-  pub ends-accepted : (i k : ℕ) → refusalBy t im (windowWrong t i k) ≡ 0 → boundsIn t im i k ≡ boundsOf (windowEnds t im i k)
+  pub ends-accepted : (i k : ℕ) → refusalBy t im (windowRefusal t i k) ≡ 0 → boundsIn t im i k ≡ boundsOf (windowEnds t im i k)
   unfolding boundsIn
-  ends-accepted i k z = rw (eq-eqb (refusalBy t im (windowWrong t i k)) 0 z)
+  ends-accepted i k z = unless-none _ _ z
 
   -- a refused register write stores nothing
-  pub write-untouched : (i register enables put : ℕ) → (refusalBy t im (storeWrong t i register enables) ≡ 0 → ⊥)
+  pub write-untouched : (i register enables put : ℕ) → (refusalBy t im (storeRefusal t i register enables) ≡ 0 → ⊥)
       → storedIn t im i register enables put ≡ im
   unfolding storedIn
-  write-untouched i register enables put ne = rw (ne-eqb (refusalBy t im (storeWrong t i register enables)) 0 ne)
+  write-untouched i register enables put ne = unless-number _ _ ne
 
   -- a refused view is empty
-  pub view-empty : (i : ℕ) → (refusalBy t im (missing t i) ≡ 0 → ⊥) → viewIn t im i ≡ []
+  pub view-empty : (i : ℕ) → (refusalBy t im (viewRefusal t i) ≡ 0 → ⊥) → viewIn t im i ≡ []
   unfolding viewIn
-  view-empty i ne = rw (ne-eqb (refusalBy t im (missing t i)) 0 ne)
+  view-empty i ne = unless-number _ _ ne
 
   -- a refused event changes nothing and answers the refusal's number
-  pub event-untouched : (h : Range) (e : Event) → (refusalBy t im (eventWrong t e) ≡ 0 → ⊥)
-      → (runIn t h im e .after ≡ im) × (runIn t h im e .answer ≡ Refused (refusalBy t im (eventWrong t e)))
+  pub event-untouched : (e : Event) → (refusalBy t im (eventRefusal t e) ≡ 0 → ⊥)
+      → runIn t im e ≡ record { reply = reply.Refused (refusalBy t im (eventRefusal t e)); after = im }
   unfolding runIn
-  event-untouched h e ne =
-      rw (ne-eqb (refusalBy t im (eventWrong t e)) 0 ne) (refl, refl)
+  event-untouched e ne = unless-number _ _ ne
+
+  -- an accepted one is run
+  pub event-runs : (e : Event) → refusalBy t im (eventRefusal t e) ≡ 0 → runIn t im e ≡ ran (eventRun t im e)
+  unfolding runIn
+  event-runs e z = unless-none _ _ z

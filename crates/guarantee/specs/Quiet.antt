@@ -13,15 +13,13 @@ use lib.ListN.{length}
 use borrow.Author.Tests.{eqb-true, eq-eqb}
 use Rattle.rack.specs.Node.{isBridge}
 use Rattle.rack.specs.Bools.{tested}
-use Rattle.rack.specs.Tree.{Tree, host, parentOf, nodesFrom, agents, bridgesFrom, buses}
+use Rattle.rack.specs.Tree.{Tree, IsBus, host, parentOf, nodesFrom, agents, bridgesFrom, buses}
 use Rattle.registers.specs.Image.{Images}
-use Rattle.window.specs.declared.Range.{Range}
 use Rattle.claims.specs.declared.Space.{Space}
 use Rattle.claims.specs.declared.Space.the-variants.{Memory, Io, Configuration}
 use Rattle.claims.specs.Space.{lastOf}
 use Rattle.claims.specs.Claimants.{claimants, firstTwo}
 use Rattle.routes_laws.specs.Takers.{OnBus}
-use Rattle.routes_laws.specs.Possible.{IsBus}
 use Rattle.overlap.specs.declared.Report.the-variants.{Pass, Fault}
 use Rattle.overlap.specs.Check.{shown, driven, driversOf, atValue, firstOf, inSpace, onBus, check}
 use Rattle.overlap.specs.StretchLaws.{fewer-shown}
@@ -31,10 +29,10 @@ use Rattle.guarantee.specs.Firsts.{Each, FirstOf, each-map, in-passes, i
 abbrev pub spaces : List Space
 spaces = Configuration ∷ Memory ∷ Io ∷ []
 
-module _ (t : Tree) (h : Range) (im : Images) where
+module _ (t : Tree) (im : Images) where
   -- at most one claimant: for a driver, for all drivers of every value of a space, and for all spaces of a bus
   abbrev pub Quiet : ℕ → Space → ℕ → ℕ → Type 0
-  Quiet bus space a driver = length (claimants t h im space bus driver a) ≤ 1
+  Quiet bus space a driver = length (claimants t im space bus driver a) ≤ 1
 
   abbrev pub QuietAt : ℕ → Space → ℕ → Type 0
   QuietAt bus space a = Each (Quiet bus space a) (driversOf t bus space)
@@ -51,19 +49,19 @@ module _ (t : Tree) (h : Range) (im : Images) where
   shown-quiet bus space a driver (x ∷ []) e = omega arith
   shown-quiet bus space a driver (x ∷ (y ∷ l)) e = let z : _≡_ {A = ℕ} 0 1 = cc in absurd (omega arith)
 
-  at-quiet : (bus : ℕ) (space : Space) (a : ℕ) → atValue t h im bus space a ≡ Pass → QuietAt bus space a
+  at-quiet : (bus : ℕ) (space : Space) (a : ℕ) → atValue t im bus space a ≡ Pass → QuietAt bus space a
   unfolding atValue
   at-quiet bus space a e =
-      each-map (λ d. driven t h im bus space a d ≡ Pass) (Quiet bus space a) (driversOf t bus space)
-      (λ d. shown-quiet bus space a d (claimants t h im space bus d a))
-      (in-passes (driven t h im bus space a) (driversOf t bus space) e)
+      each-map (λ d. driven t im bus space a d ≡ Pass) (Quiet bus space a) (driversOf t bus space)
+      (λ d. shown-quiet bus space a d (claimants t im space bus d a))
+      (in-passes (driven t im bus space a) (driversOf t bus space) e)
 
-  quiet-at : (bus : ℕ) (space : Space) (a : ℕ) → QuietAt bus space a → atValue t h im bus space a ≡ Pass
+  quiet-at : (bus : ℕ) (space : Space) (a : ℕ) → QuietAt bus space a → atValue t im bus space a ≡ Pass
   unfolding atValue
   quiet-at bus space a q =
-      in-pass (driven t h im bus space a) (driversOf t bus space)
-      (each-map (Quiet bus space a) (λ d. driven t h im bus space a d ≡ Pass) (driversOf t bus space)
-      (λ d. fewer-shown bus space a d (claimants t h im space bus d a)) q)
+      in-pass (driven t im bus space a) (driversOf t bus space)
+      (each-map (Quiet bus space a) (λ d. driven t im bus space a d ≡ Pass) (driversOf t bus space)
+      (λ d. fewer-shown bus space a d (claimants t im space bus d a)) q)
 
   -- the last value of a space is not below the first
   span : (space : Space) → firstOf space + (lastOf space + 1 - firstOf space) ≡ lastOf space + 1
@@ -71,34 +69,34 @@ module _ (t : Tree) (h : Range) (im : Images) where
   span Io = omega arith
   span Configuration = omega arith
 
-  in-quiet : (bus : ℕ) (space : Space) → inSpace t h im bus space ≡ Pass → QuietIn bus space
+  in-quiet : (bus : ℕ) (space : Space) → inSpace t im bus space ≡ Pass → QuietIn bus space
   in-quiet bus space e a l m =
       at-quiet bus space a
-      (from-passes (atValue t h im bus space) (lastOf space + 1 - firstOf space) (firstOf space) e a l (omega (arith, span space)))
+      (from-passes (atValue t im bus space) (lastOf space + 1 - firstOf space) (firstOf space) e a l (omega (arith, span space)))
 
-  quiet-in : (bus : ℕ) (space : Space) → QuietIn bus space → inSpace t h im bus space ≡ Pass
+  quiet-in : (bus : ℕ) (space : Space) → QuietIn bus space → inSpace t im bus space ≡ Pass
   quiet-in bus space q =
-      from-pass (atValue t h im bus space) (lastOf space + 1 - firstOf space) (firstOf space)
+      from-pass (atValue t im bus space) (lastOf space + 1 - firstOf space) (firstOf space)
       (λ a l m. quiet-at bus space a (q a l (omega (arith, span space))))
 
-  on-quiet : (bus : ℕ) → onBus t h im bus ≡ Pass → QuietOn bus
+  on-quiet : (bus : ℕ) → onBus t im bus ≡ Pass → QuietOn bus
   unfolding onBus
   on-quiet bus e =
-      each-map (λ s. inSpace t h im bus s ≡ Pass) (QuietIn bus) spaces (in-quiet bus) (in-passes (inSpace t h im bus) spaces e)
+      each-map (λ s. inSpace t im bus s ≡ Pass) (QuietIn bus) spaces (in-quiet bus) (in-passes (inSpace t im bus) spaces e)
 
-  quiet-on : (bus : ℕ) → QuietOn bus → onBus t h im bus ≡ Pass
+  quiet-on : (bus : ℕ) → QuietOn bus → onBus t im bus ≡ Pass
   unfolding onBus
   quiet-on bus q =
-      in-pass (inSpace t h im bus) spaces (each-map (QuietIn bus) (λ s. inSpace t h im bus s ≡ Pass) spaces (quiet-in bus) q)
+      in-pass (inSpace t im bus) spaces (each-map (QuietIn bus) (λ s. inSpace t im bus s ≡ Pass) spaces (quiet-in bus) q)
 
   -- the check passes exactly where every bus is quiet
-  pub check-quiet : check t h im ≡ Pass → Each QuietOn (buses t)
+  pub check-quiet : check t im ≡ Pass → Each QuietOn (buses t)
   unfolding check
-  check-quiet e = each-map (λ b. onBus t h im b ≡ Pass) QuietOn (buses t) on-quiet (in-passes (onBus t h im) (buses t) e)
+  check-quiet e = each-map (λ b. onBus t im b ≡ Pass) QuietOn (buses t) on-quiet (in-passes (onBus t im) (buses t) e)
 
-  pub quiet-check : Each QuietOn (buses t) → check t h im ≡ Pass
+  pub quiet-check : Each QuietOn (buses t) → check t im ≡ Pass
   unfolding check
-  quiet-check q = in-pass (onBus t h im) (buses t) (each-map QuietOn (λ b. onBus t h im b ≡ Pass) (buses t) quiet-on q)
+  quiet-check q = in-pass (onBus t im) (buses t) (each-map QuietOn (λ b. onBus t im b ≡ Pass) (buses t) quiet-on q)
 
 -- the members of the lists of buses and agents, in plain words
 module _ (t : Tree) where
@@ -174,53 +172,53 @@ module _ (t : Tree) where
 
 -- Demand 3: 'no bus, driver and address has two claimants'. On every bus the claimants are at most one: for each agent as
 -- driver at every memory and I/O address, and for the holder at each bus number 1 to 255
-pub record OneClaimant (t : Tree) (h : Range) (im : Images) : Type 0 where
+pub record OneClaimant (t : Tree) (im : Images) : Type 0 where
   pub memory : (bus : ℕ) → IsBus t bus → (driver : ℕ) → OnBus t bus driver → (a : ℕ) → a < 2 ^ 64
-      → length (claimants t h im Memory bus driver a) ≤ 1
+      → length (claimants t im Memory bus driver a) ≤ 1
   pub io : (bus : ℕ) → IsBus t bus → (driver : ℕ) → OnBus t bus driver → (a : ℕ) → a < 2 ^ 32
-      → length (claimants t h im Io bus driver a) ≤ 1
+      → length (claimants t im Io bus driver a) ≤ 1
   pub configuration : (bus : ℕ) → IsBus t bus → (n : ℕ) → 1 ≤ n → n ≤ 255
-      → length (claimants t h im Configuration bus bus n) ≤ 1
+      → length (claimants t im Configuration bus bus n) ≤ 1
 
-module _ (t : Tree) (h : Range) (im : Images) where
+module _ (t : Tree) (im : Images) where
   -- a check passes exactly then
-  pub passed : check t h im ≡ Pass → OneClaimant t h im
+  pub passed : check t im ≡ Pass → OneClaimant t im
   unfolding Each
   passed e =
       record {
-        memory = λ bus is d on a l. agents-each t (Quiet t h im bus Memory a) bus (quiet bus is .1 .0 a (omega arith) (omega arith)) d on;
-        io = λ bus is d on a l. agents-each t (Quiet t h im bus Io a) bus (quiet bus is .1 .1 .0 a (omega arith) (omega arith)) d on;
+        memory = λ bus is d on a l. agents-each t (Quiet t im bus Memory a) bus (quiet bus is .1 .0 a (omega arith) (omega arith)) d on;
+        io = λ bus is d on a l. agents-each t (Quiet t im bus Io a) bus (quiet bus is .1 .1 .0 a (omega arith) (omega arith)) d on;
         configuration = λ bus is n l m. quiet bus is .0 n l m .0;
       }
     where
-      quiet : (bus : ℕ) → IsBus t bus → QuietOn t h im bus
-      quiet = buses-each t (QuietOn t h im) (check-quiet t h im e)
+      quiet : (bus : ℕ) → IsBus t bus → QuietOn t im bus
+      quiet = buses-each t (QuietOn t im) (check-quiet t im e)
 
-  pub passes : OneClaimant t h im → check t h im ≡ Pass
+  pub passes : OneClaimant t im → check t im ≡ Pass
   unfolding Each
   passes o =
-      quiet-check t h im
-      (each-buses t (QuietOn t h im)
+      quiet-check t im
+      (each-buses t (QuietOn t im)
       (λ bus is. (
         (λ n l m. (o .configuration bus is n l m, tt)),
         (
-          (λ a l m. each-agents t (Quiet t h im bus Memory a) bus (λ d on. o .memory bus is d on a (omega arith))),
-          ((λ a l m. each-agents t (Quiet t h im bus Io a) bus (λ d on. o .io bus is d on a (omega arith))), tt),
+          (λ a l m. each-agents t (Quiet t im bus Memory a) bus (λ d on. o .memory bus is d on a (omega arith))),
+          ((λ a l m. each-agents t (Quiet t im bus Io a) bus (λ d on. o .io bus is d on a (omega arith))), tt),
         ),
       )))
 
 -- what a check shows: the first bus, there the first kind, the lowest value and the first driver with two claimants, and the
 -- first two of them; whatever comes before has at most one
-pub record FirstFault (t : Tree) (h : Range) (im : Images) (bus : ℕ) (space : Space) (a driver x y : ℕ) : Type 0 where
-  pub bus-first : FirstOf (QuietOn t h im) (buses t) bus
-  pub space-first : FirstOf (QuietIn t h im bus) spaces space
+pub record FirstFault (t : Tree) (im : Images) (bus : ℕ) (space : Space) (a driver x y : ℕ) : Type 0 where
+  pub bus-first : FirstOf (QuietOn t im) (buses t) bus
+  pub space-first : FirstOf (QuietIn t im bus) spaces space
   pub from-first : firstOf space ≤ a
   pub to-last : a ≤ lastOf space
-  pub lower : (b : ℕ) → firstOf space ≤ b → b < a → QuietAt t h im bus space b
-  pub driver-first : FirstOf (Quiet t h im bus space a) (driversOf t bus space) driver
-  pub two : (rest : List ℕ) × (claimants t h im space bus driver a ≡ x ∷ (y ∷ rest))
+  pub lower : (b : ℕ) → firstOf space ≤ b → b < a → QuietAt t im bus space b
+  pub driver-first : FirstOf (Quiet t im bus space a) (driversOf t bus space) driver
+  pub two : (rest : List ℕ) × (claimants t im space bus driver a ≡ x ∷ (y ∷ rest))
 
-module _ (t : Tree) (h : Range) (im : Images) where
+module _ (t : Tree) (im : Images) where
   -- a search whose passes are quiet
   quieter : {A : Type 0} (P Q : A → Type 0) (l : List A) (x : A) → ((w : A) → P w → Q w) → FirstOf P l x → FirstOf Q l x
   quieter P Q l x f r =
@@ -242,27 +240,27 @@ module _ (t : Tree) (h : Range) (im : Images) where
       record { same-bus = cc; same-space = cc; same-value = cc; same-driver = cc; two = (l, cc) }
 
   -- where a check does not pass, what it shows is that first fault
-  pub faulted : (bus : ℕ) (space : Space) (a driver x y : ℕ) → check t h im ≡ Fault bus space a driver x y
-      → FirstFault t h im bus space a driver x y
+  pub faulted : (bus : ℕ) (space : Space) (a driver x y : ℕ) → check t im ≡ Fault bus space a driver x y
+      → FirstFault t im bus space a driver x y
   unfolding check onBus atValue
   faulted bus space a driver x y e =
-      let b = in-first bus space a driver x y (onBus t h im) (buses t) e in
-      let s = in-first bus space a driver x y (inSpace t h im (b .0)) spaces (b .2) in
-      let v = from-first bus space a driver x y (atValue t h im (b .0) (s .0)) (lastOf (s .0) + 1 - firstOf (s .0)) (firstOf (s .0)) (s .2) in
-      let d = in-first bus space a driver x y (driven t h im (b .0) (s .0) (v .0)) (driversOf t (b .0) (s .0)) (v .3) in
-      let w = shown-two (b .0) (s .0) (v .0) (d .0) (claimants t h im (s .0) (b .0) (d .0) (v .0)) bus space a driver x y (d .2) in
+      let b = in-first bus space a driver x y (onBus t im) (buses t) e in
+      let s = in-first bus space a driver x y (inSpace t im (b .0)) spaces (b .2) in
+      let v = from-first bus space a driver x y (atValue t im (b .0) (s .0)) (lastOf (s .0) + 1 - firstOf (s .0)) (firstOf (s .0)) (s .2) in
+      let d = in-first bus space a driver x y (driven t im (b .0) (s .0) (v .0)) (driversOf t (b .0) (s .0)) (v .3) in
+      let w = shown-two (b .0) (s .0) (v .0) (d .0) (claimants t im (s .0) (b .0) (d .0) (v .0)) bus space a driver x y (d .2) in
       all (b .0) (s .0) (v .0) (d .0) (w .same-bus) (w .same-space) (w .same-value) (w .same-driver)
       (record {
-        bus-first = quieter (λ k. onBus t h im k ≡ Pass) (QuietOn t h im) (buses t) (b .0) (on-quiet t h im) (b .1);
-        space-first = quieter (λ k. inSpace t h im (b .0) k ≡ Pass) (QuietIn t h im (b .0)) spaces (s .0) (in-quiet t h im (b .0)) (s .1);
+        bus-first = quieter (λ k. onBus t im k ≡ Pass) (QuietOn t im) (buses t) (b .0) (on-quiet t im) (b .1);
+        space-first = quieter (λ k. inSpace t im (b .0) k ≡ Pass) (QuietIn t im (b .0)) spaces (s .0) (in-quiet t im (b .0)) (s .1);
         from-first = v .1;
-        to-last = omega (arith, v .2, span t h im (s .0));
-        lower = λ k l m. at-quiet t h im (b .0) (s .0) k (v .4 k l m);
-        driver-first = quieter (λ k. driven t h im (b .0) (s .0) (v .0) k ≡ Pass) (Quiet t h im (b .0) (s .0) (v .0)) (driversOf t (b .0) (s .0)) (d .0)
-            (λ k. shown-quiet t h im (b .0) (s .0) (v .0) k (claimants t h im (s .0) (b .0) k (v .0))) (d .1);
+        to-last = omega (arith, v .2, span t im (s .0));
+        lower = λ k l m. at-quiet t im (b .0) (s .0) k (v .4 k l m);
+        driver-first = quieter (λ k. driven t im (b .0) (s .0) (v .0) k ≡ Pass) (Quiet t im (b .0) (s .0) (v .0)) (driversOf t (b .0) (s .0)) (d .0)
+            (λ k. shown-quiet t im (b .0) (s .0) (v .0) k (claimants t im (s .0) (b .0) k (v .0))) (d .1);
         two = w .two;
       })
     where
       all : (bus' : ℕ) (space' : Space) (a' driver' : ℕ) → bus' ≡ bus → space' ≡ space → a' ≡ a → driver' ≡ driver
-          → FirstFault t h im bus' space' a' driver' x y → FirstFault t h im bus space a driver x y
+          → FirstFault t im bus' space' a' driver' x y → FirstFault t im bus space a driver x y
       all bus' space' a' driver' p q r s f = rw (sym p, sym q, sym r, sym s) f

@@ -5,19 +5,18 @@ use mathlib.Core.Bool.{Bool, true, false, not, _&&_, true≢false, false≢true}
 use mathlib.Core.Logic.{inl, ⊎-elim}
 use mathlib.Core.List.{List, [], _∷_}
 use Prim.Native.Nat.{ℕ, zero, suc, _+_, _-_, _/_, _%_, _≤_, _<_}
-use native.Mathlib.Nat.{eq-or-lt-of-le, le-refl}
+use native.Mathlib.Nat.{eq-or-lt-of-le}
 use native.Mathlib.Omega.{arith}
 use lib.Dec.{eqb}
 use lib.ListN.{length}
 use borrow.Author.Tests.{eqb-true, eqb-false, eq-eqb, ne-eqb}
 use Rattle.rack.specs.Node.{isBridge}
 use Rattle.rack.specs.Bools.{tested, both}
-use Rattle.rack.specs.Tree.{Tree, host, parentOf, agents}
+use Rattle.rack.specs.Tree.{Tree, host, parentOf, agents, IsBus}
+use Rattle.rack.specs.Stored.{Stored}
 use Rattle.rack.specs.Refusal.{rackRefusal}
 use Rattle.rack_laws.specs.Sound.{devices-differ}
-use Rattle.header.specs.Register.{readRegister}
-use Rattle.registers.specs.Image.{Images, view, writeNode}
-use Rattle.window.specs.declared.Range.{Range}
+use Rattle.registers.specs.Image.{Images, view}
 use Rattle.claims.specs.declared.Space.{Space}
 use Rattle.claims.specs.declared.Space.the-variants.{Memory, Io, Configuration}
 use Rattle.claims.specs.declared.DeviceClaims.{DeviceClaims}
@@ -28,17 +27,26 @@ use Rattle.claims.specs.ClaimantLaws.{next-below}
 use Rattle.claims_laws.specs.Reach.{areaAt, Reach, reach}
 use Rattle.steps.specs.declared.Access.{Access}
 use Rattle.steps.specs.declared.Outcome.{Outcome}
-use Rattle.steps.specs.declared.Outcome.the-variants.{Abort, Done, Target}
-use Rattle.steps.specs.declared.Ending.{Ending}
-use Rattle.steps.specs.declared.Ending.the-variants.{Data, Stored, Owner, Host, Unclaimed, Clash, Silent}
+use Rattle.steps.specs.declared.End.{End}
+use Rattle.steps.specs.declared.End.the-variants.{Node, Owner, Host, Unclaimed, Clash, Silent}
 use Rattle.steps.specs.declared.Sight.{Sight}
 use Rattle.steps.specs.declared.Sight.the-variants.{Ends, Crosses}
-use Rattle.steps.specs.Ending.{Out, crossingsOf, endingNumber}
-use Rattle.steps.specs.Look.{isIo, unclaimed, owned, claimed, served, direct, target, look}
-use Rattle.steps.specs.Cross.{otherBus, turnsType0, passed, crossed}
+use Rattle.steps.specs.End.{Out, ifUnclaimed, ends}
+use Rattle.steps.specs.EndLaws.{by-end}
+use Rattle.steps.specs.Look.{isIo, unclaimed, owned, claimed, direct, target, look}
+use Rattle.steps.specs.Cross.{otherBus, turnsType0, crossed}
 use Rattle.routes.specs.Route.{follow, busStep, bridgeStep, possible, from, returned, started}
 use Rattle.routes_laws.specs.Takers.{Taken, Follows, look-follows}
-use Rattle.routes_laws.specs.Possible.{IsBus, Enough, onward}
+use Rattle.routes_laws.specs.Possible.{Enough, onward, possible-is}
+
+-- two or more claim
+abbrev pub isClash : End → Bool
+isClash (Node g) = false
+isClash (Owner g r o) = false
+isClash (Host o) = false
+isClash (Unclaimed k o) = false
+isClash (Clash k y z) = true
+isClash Silent = false
 
 -- node g is the one that Type 0 configuration reaches on a bus: that device number, function 0
 pub record Selected (t : Tree) (bus device g : ℕ) : Type 0 where
@@ -113,39 +121,34 @@ module _ (t : Tree) (bus device : ℕ) where
       let n = next-fails sits 0 (t .count) (omega arith) z g (omega arith) (omega (arith, s .node)) in
       true≢false (sym (rw (eq-eqb (parentOf t g) bus (s .on-bus), eq-eqb (t .node g .device) (device / 8) (s .number))) ∙ n)
 
-module _ (t : Tree) (h : Range) (im : Images) (x : Access) where
+module _ (t : Tree) (im : Images) (x : Access) where
   -- who claims the access on a bus
   abbrev pub claimantsOn : ℕ → ℕ → List ℕ
-  claimantsOn bus driver = claimants t h im (x .space) bus driver (x .address)
+  claimantsOn bus driver = claimants t im (x .space) bus driver (x .address)
 
-  -- the last bus of an access, by its ending e and the images u that it leaves: 'the list is empty for unclaimed, exactly the
-  -- host for host, exactly that node for owner (the region the lowest that holds the address, the offset from that region's
-  -- base); for data and stored the one node of that device number, function 0, is the one whose dword is read or written'. Never
-  -- a clash
-  abbrev pub Last : ℕ → ℕ → Bool → Ending → Images → Type 0
-  Last bus driver true (Data c v) u =
-      (g : ℕ) × Selected t bus (x .device) g × (v ≡ readRegister (view t im g) (x .register)) × (u ≡ im)
-  Last bus driver true (Stored c) u =
-      (g : ℕ) × Selected t bus (x .device) g × (u ≡ writeNode t im g (x .register) (x .enables) (x .«data»))
-  Last bus driver true (Owner c g r o) u = ⊥
-  Last bus driver true (Host c o) u = ⊥
-  Last bus driver true (Unclaimed c k o) u = (k ≡ bus) × NoneSelected t bus (x .device)
-  Last bus driver true (Clash c k y z) u = ⊥
+  -- the last bus of an access, by its end e and the images u that it leaves: 'the list is empty for unclaimed, exactly the host for
+  -- host, exactly that node for owner (the region the lowest that holds the address, the offset from that region's base)'; Type 0
+  -- ends at the one node of that device number, function 0. Never a clash
+  abbrev pub Last : ℕ → ℕ → Bool → End → Images → Type 0
+  Last bus driver true (Node g) u = Selected t bus (x .device) g × (u ≡ im)
+  Last bus driver true (Owner g r o) u = ⊥
+  Last bus driver true (Host o) u = ⊥
+  Last bus driver true (Unclaimed k o) u = (k ≡ bus) × NoneSelected t bus (x .device)
+  Last bus driver true (Clash k y z) u = ⊥
   Last bus driver true Silent u = ⊥
-  Last bus driver false (Data c v) u = ⊥
-  Last bus driver false (Stored c) u = ⊥
-  Last bus driver false (Owner c g r o) u =
+  Last bus driver false (Node g) u = ⊥
+  Last bus driver false (Owner g r o) u =
       (claimantsOn bus driver ≡ g ∷ [])
       × Reach (deviceOf (t .node g) (view t im g)) (isIo (x .space)) (x .address) r
       × (o ≡ x .address - areaAt (deviceOf (t .node g) (view t im g)) r .range .first)
-  Last bus driver false (Host c o) u = (claimantsOn bus driver ≡ host ∷ []) × (o ≡ x .address - h .first)
-  Last bus driver false (Unclaimed c k o) u = (k ≡ bus) × (claimantsOn bus driver ≡ [])
-  Last bus driver false (Clash c k y z) u = ⊥
+  Last bus driver false (Host o) u = (claimantsOn bus driver ≡ host ∷ []) × (o ≡ x .address - t .hostMemory .first)
+  Last bus driver false (Unclaimed k o) u = (k ≡ bus) × (claimantsOn bus driver ≡ [])
+  Last bus driver false (Clash k y z) u = ⊥
   Last bus driver false Silent u = ⊥
 
   -- the bridges that take an access on, from a bus to its last: 'on every bus that it passes, the list of claimants is exactly
   -- the bridge that takes it on'
-  unfoldable pub Way : ℕ → ℕ → Bool → List ℕ → Ending → Images → Type 0
+  unfoldable pub Way : ℕ → ℕ → Bool → List ℕ → End → Images → Type 0
   Way bus driver type0 [] e u = Last bus driver type0 e u
   Way bus driver type0 (g ∷ gs) e u =
       (type0 ≡ false) × (claimantsOn bus driver ≡ g ∷ []) × (isBridge (t .node g .kind) ≡ true)
@@ -153,154 +156,82 @@ module _ (t : Tree) (h : Range) (im : Images) (x : Access) where
 
   -- an access that has such a way, with as many crossings
   abbrev pub Went : ℕ → ℕ → Bool → Out → Type 0
-  Went bus driver type0 o = (gs : List ℕ) × (length gs ≡ crossingsOf (o .ending)) × Way bus driver type0 gs (o .ending) (o .after)
+  Went bus driver type0 o = (gs : List ℕ) × (length gs ≡ o .route .crossings) × Way bus driver type0 gs (o .route .end) (o .after)
 
-  -- whatever changes crossings, outcome and the images of an unclaimed access alone leaves the way as it is
-  pub record Kept (e e' : Ending) (u u' : Images) : Type 0 where
-    pub last : (bus driver : ℕ) (type0 : Bool) → Last bus driver type0 e u → Last bus driver type0 e' u'
+  -- whatever changes the outcome and the images of an unclaimed access alone leaves the way as it is
+  abbrev Kept : End → End → Images → Images → Type 0
+  Kept e e' u u' = (bus driver : ℕ) (type0 : Bool) → Last bus driver type0 e u → Last bus driver type0 e' u'
 
-  way-kept : (e e' : Ending) (u u' : Images) → Kept e e' u u' → (gs : List ℕ) (bus driver : ℕ) (type0 : Bool)
+  way-kept : (e e' : End) (u u' : Images) → Kept e e' u u' → (gs : List ℕ) (bus driver : ℕ) (type0 : Bool)
       → Way bus driver type0 gs e u → Way bus driver type0 gs e' u'
   unfolding Way
-  way-kept e e' u u' k [] bus driver type0 w = k .last bus driver type0 w
+  way-kept e e' u u' k [] bus driver type0 w = k bus driver type0 w
   way-kept e e' u u' k (g ∷ gs) bus driver type0 w =
       (w .0, w .1, w .2, way-kept e e' u u' k gs (otherBus t bus g) g (turnsType0 t im x bus g) (w .3))
 
-  same-kept : (e : Ending) (u : Images) → Kept e e u u
-  same-kept e u = record { last = λ bus driver type0 l. l }
-
-  data-kept : (c c' v : ℕ) (u : Images) → Kept (Data c v) (Data c' v) u u
-  data-kept c c' v u = record { last = by }
-    where
-      by : (bus driver : ℕ) (type0 : Bool) → Last bus driver type0 (Data c v) u → Last bus driver type0 (Data c' v) u
-      by bus driver true l = l
-      by bus driver false l = l
-
-  stored-kept : (c c' : ℕ) (u : Images) → Kept (Stored c) (Stored c') u u
-  stored-kept c c' u = record { last = by }
-    where
-      by : (bus driver : ℕ) (type0 : Bool) → Last bus driver type0 (Stored c) u → Last bus driver type0 (Stored c') u
-      by bus driver true l = l
-      by bus driver false l = l
-
-  owner-kept : (c c' n r o : ℕ) (u : Images) → Kept (Owner c n r o) (Owner c' n r o) u u
-  owner-kept c c' n r o u = record { last = by }
-    where
-      by : (bus driver : ℕ) (type0 : Bool) → Last bus driver type0 (Owner c n r o) u → Last bus driver type0 (Owner c' n r o) u
-      by bus driver true l = l
-      by bus driver false l = l
-
-  host-kept : (c c' o : ℕ) (u : Images) → Kept (Host c o) (Host c' o) u u
-  host-kept c c' o u = record { last = by }
-    where
-      by : (bus driver : ℕ) (type0 : Bool) → Last bus driver type0 (Host c o) u → Last bus driver type0 (Host c' o) u
-      by bus driver true l = l
-      by bus driver false l = l
-
-  unclaimed-kept : (c c' k : ℕ) (o o' : Outcome) (u u' : Images) → Kept (Unclaimed c k o) (Unclaimed c' k o') u u'
-  unclaimed-kept c c' k o o' u u' = record { last = by }
-    where
-      by : (bus driver : ℕ) (type0 : Bool) → Last bus driver type0 (Unclaimed c k o) u → Last bus driver type0 (Unclaimed c' k o') u'
-      by bus driver true l = l
-      by bus driver false l = l
-
-  clash-kept : (c c' k y z : ℕ) (u : Images) → Kept (Clash c k y z) (Clash c' k y z) u u
-  clash-kept c c' k y z u = record { last = by }
-    where
-      by : (bus driver : ℕ) (type0 : Bool) → Last bus driver type0 (Clash c k y z) u → Last bus driver type0 (Clash c' k y z) u
-      by bus driver true l = l
-      by bus driver false l = l
+  unclaimed-kept : (k : ℕ) (o o' : Outcome) (u u' : Images) → Kept (Unclaimed k o) (Unclaimed k o') u u'
+  unclaimed-kept k o o' u u' bus driver true l = l
+  unclaimed-kept k o o' u u' bus driver false l = l
 
   -- so do the bridges on the way back, and the return to an initiating device
-  crossed-kept : (b g : ℕ) (e : Ending) (u : Images) → Kept e (crossed t u x b g e .ending) u (crossed t u x b g e .after)
-  unfolding crossed passed
-  crossed-kept b g (Data c v) u = data-kept c (c + 1) v u
-  crossed-kept b g (Stored c) u = stored-kept c (c + 1) u
-  crossed-kept b g (Owner c n r o) u = owner-kept c (c + 1) n r o u
-  crossed-kept b g (Host c o) u = host-kept c (c + 1) o u
-  crossed-kept b g (Unclaimed c k Abort) u = unclaimed-kept c (c + 1) k Abort _ u _
-  crossed-kept b g (Unclaimed c k Done) u = unclaimed-kept c (c + 1) k Done Done u u
-  crossed-kept b g (Unclaimed c k Target) u = unclaimed-kept c (c + 1) k Target Target u _
-  crossed-kept b g (Clash c k y z) u = clash-kept c (c + 1) k y z u
-  crossed-kept b g Silent u = same-kept Silent u
+  passed-kept : (f : ℕ → Outcome → Outcome) (v : ℕ → Outcome → Images) (e : End) (u : Images)
+      → Kept e (ifUnclaimed (λ k o. Unclaimed k (f k o)) e e) u (ifUnclaimed v u e)
+  unfolding ifUnclaimed
+  passed-kept f v e u bus driver type0 l =
+      by-end e (λ k o q. rw q (unclaimed-kept k o (f k o) u (v k o) bus driver type0 (rw q at l)))
+      (λ other. rw (other End (λ k o. Unclaimed k (f k o)) e, other Images v u) l)
 
-  returned-kept : (i : ℕ) (e : Ending) (u : Images) → Kept e e u (returned t i e u)
-  unfolding returned
-  returned-kept i (Data c v) u = same-kept (Data c v) u
-  returned-kept i (Stored c) u = same-kept (Stored c) u
-  returned-kept i (Owner c n r o) u = same-kept (Owner c n r o) u
-  returned-kept i (Host c o) u = same-kept (Host c o) u
-  returned-kept i (Unclaimed c k o) u = unclaimed-kept c c k o o u _
-  returned-kept i (Clash c k y z) u = same-kept (Clash c k y z) u
-  returned-kept i Silent u = same-kept Silent u
+  returned-kept : (v : ℕ → Outcome → Images) (e : End) (u : Images) → Kept e e u (ifUnclaimed v u e)
+  unfolding ifUnclaimed
+  returned-kept v e u bus driver type0 l =
+      by-end e (λ k o q. rw q (unclaimed-kept k o o u (v k o) bus driver type0 (rw q at l))) (λ other. rw (other Images v u) l)
 
   pub started-went : (bus driver : ℕ) (type0 : Bool) (i : ℕ) (o : Out) → Went bus driver type0 o
       → Went bus driver type0 (started t i o)
+  unfolding returned
   started-went bus driver type0 i o w =
-      (w .0, w .1, way-kept (o .ending) (o .ending) (o .after) (returned t i (o .ending) (o .after)) (returned-kept i (o .ending) (o .after)) (w .0) bus driver type0 (w .2))
+      let e = o .route .end in
+      (w .0, w .1, way-kept e e (o .after) _ (returned-kept _ e (o .after)) (w .0) bus driver type0 (w .2))
 
-  -- an access that went to a last bus is not silent, so a bridge adds its crossing
-  last-more : (b g bus driver : ℕ) (type0 : Bool) (e : Ending) (u : Images) → Last bus driver type0 e u
-      → crossingsOf (crossed t u x b g e .ending) ≡ crossingsOf e + 1
-  unfolding crossed passed
-  last-more b g bus driver type0 (Data c v) u l = refl
-  last-more b g bus driver type0 (Stored c) u l = refl
-  last-more b g bus driver type0 (Unclaimed c k Abort) u l = refl
-  last-more b g bus driver type0 (Unclaimed c k Done) u l = refl
-  last-more b g bus driver type0 (Unclaimed c k Target) u l = refl
-  last-more b g bus driver type0 (Owner c n r o) u l = refl
-  last-more b g bus driver type0 (Host c o) u l = refl
-  last-more b g bus driver type0 (Clash c k y z) u l = refl
-  last-more b g bus driver true Silent u l = absurd l
-  last-more b g bus driver false Silent u l = absurd l
-
-  way-more : (b g : ℕ) (gs : List ℕ) (bus driver : ℕ) (type0 : Bool) (e : Ending) (u : Images) → Way bus driver type0 gs e u
-      → crossingsOf (crossed t u x b g e .ending) ≡ crossingsOf e + 1
+  ended : (bus driver : ℕ) (type0 : Bool) (e : End) (u : Images) → Last bus driver type0 e u → Went bus driver type0 (ends e u)
   unfolding Way
-  way-more b g [] bus driver type0 e u w = last-more b g bus driver type0 e u w
-  way-more b g (k ∷ gs) bus driver type0 e u w = way-more b g gs (otherBus t bus k) k (turnsType0 t im x bus k) e u (w .3)
-
-  ended : (bus driver : ℕ) (type0 : Bool) (e : Ending) (u : Images) → crossingsOf e ≡ 0 → Last bus driver type0 e u
-      → Went bus driver type0 (record { ending = e; after = u })
-  unfolding Way
-  ended bus driver type0 e u n l = ([], sym n, l)
+  ended bus driver type0 e u l = ([], refl, l)
 
   -- one bridge more
   across : (bus driver g : ℕ) (o : Out) → claimantsOn bus driver ≡ g ∷ [] → isBridge (t .node g .kind) ≡ true
-      → Went (otherBus t bus g) g (turnsType0 t im x bus g) o → Went bus driver false (crossed t (o .after) x bus g (o .ending))
-  unfolding Way
-  across bus driver g o one is w = (
-    g ∷ w .0,
-    omega (arith, w .1, way-more bus g (w .0) (otherBus t bus g) g (turnsType0 t im x bus g) (o .ending) (o .after) (w .2)),
-    (
-      refl,
-      one,
-      is,
-      way-kept (o .ending) (crossed t (o .after) x bus g (o .ending) .ending) (o .after) (crossed t (o .after) x bus g (o .ending) .after)
-          (crossed-kept bus g (o .ending) (o .after)) (w .0) (otherBus t bus g) g (turnsType0 t im x bus g) (w .2),
-    ),
-  )
+      → Went (otherBus t bus g) g (turnsType0 t im x bus g) o → Went bus driver false (crossed t (o .after) x bus g (o .route))
+  unfolding Way crossed
+  across bus driver g o one is w =
+      let e = o .route .end in (
+        g ∷ w .0,
+        omega (arith, w .1),
+        (
+          refl,
+          one,
+          is,
+          way-kept e _ (o .after) _ (passed-kept _ _ e (o .after)) (w .0) (otherBus t bus g) g (turnsType0 t im x bus g) (w .2),
+        ),
+      )
 
   -- never in a clash
-  last-agrees : (bus driver : ℕ) (type0 : Bool) (e : Ending) (u : Images) → Last bus driver type0 e u → endingNumber e ≡ 6 → ⊥
-  last-agrees bus driver type0 (Data c v) u l n = omega arith
-  last-agrees bus driver type0 (Stored c) u l n = omega arith
-  last-agrees bus driver type0 (Owner c g r o) u l n = omega arith
-  last-agrees bus driver type0 (Host c o) u l n = omega arith
-  last-agrees bus driver type0 (Unclaimed c k o) u l n = omega arith
-  last-agrees bus driver true (Clash c k y z) u l n = l
-  last-agrees bus driver false (Clash c k y z) u l n = l
-  last-agrees bus driver type0 Silent u l n = omega arith
+  last-agrees : (bus driver : ℕ) (type0 : Bool) (e : End) (u : Images) → Last bus driver type0 e u → isClash e ≡ false
+  last-agrees bus driver type0 (Node g) u l = refl
+  last-agrees bus driver type0 (Owner g r o) u l = refl
+  last-agrees bus driver type0 (Host o) u l = refl
+  last-agrees bus driver type0 (Unclaimed k o) u l = refl
+  last-agrees bus driver true (Clash k y z) u l = absurd l
+  last-agrees bus driver false (Clash k y z) u l = absurd l
+  last-agrees bus driver type0 Silent u l = refl
 
-  way-agrees : (gs : List ℕ) (bus driver : ℕ) (type0 : Bool) (e : Ending) (u : Images) → Way bus driver type0 gs e u
-      → endingNumber e ≡ 6 → ⊥
+  way-agrees : (gs : List ℕ) (bus driver : ℕ) (type0 : Bool) (e : End) (u : Images) → Way bus driver type0 gs e u
+      → isClash e ≡ false
   unfolding Way
-  way-agrees [] bus driver type0 e u w n = last-agrees bus driver type0 e u w n
-  way-agrees (g ∷ gs) bus driver type0 e u w n = way-agrees gs (otherBus t bus g) g (turnsType0 t im x bus g) e u (w .3) n
+  way-agrees [] bus driver type0 e u w = last-agrees bus driver type0 e u w
+  way-agrees (g ∷ gs) bus driver type0 e u w = way-agrees gs (otherBus t bus g) g (turnsType0 t im x bus g) e u (w .3)
 
   -- an access that went its way did not clash
-  pub went-agrees : (bus driver : ℕ) (type0 : Bool) (o : Out) → Went bus driver type0 o → endingNumber (o .ending) ≡ 6 → ⊥
-  went-agrees bus driver type0 o w n = way-agrees (w .0) bus driver type0 (o .ending) (o .after) (w .2) n
+  pub went-agrees : (bus driver : ℕ) (type0 : Bool) (o : Out) → Went bus driver type0 o → isClash (o .route .end) ≡ false
+  went-agrees bus driver type0 o w = way-agrees (w .0) bus driver type0 (o .route .end) (o .after) (w .2)
 
   -- a claimant claims
   claimants-claim : (claim : ℕ → Bool) (driver : ℕ) (l : List ℕ) (g : ℕ) (rest : List ℕ) → claimantsIn claim driver l ≡ g ∷ rest
@@ -319,7 +250,7 @@ module _ (t : Tree) (h : Range) (im : Images) (x : Access) where
   in-region d Io a c = both (d .io) _ c .1
   in-region d Configuration a c = absurd (false≢true c)
 
-  device-reaches : (bus g : ℕ) → (g ≡ host → ⊥) → isBridge (t .node g .kind) ≡ false → claims t h im (x .space) bus g (x .address) ≡ true
+  device-reaches : (bus g : ℕ) → (g ≡ host → ⊥) → isBridge (t .node g .kind) ≡ false → claims t im (x .space) bus g (x .address) ≡ true
       → inRegions (deviceOf (t .node g) (view t im g)) (isIo (x .space)) (x .address) ≡ true
   unfolding agentOf claimsOf
   device-reaches bus g ne is c =
@@ -328,42 +259,37 @@ module _ (t : Tree) (h : Range) (im : Images) (x : Access) where
   module _ (few : t .count ≤ 255) where
     -- what is seen on a bus with at most one claimant: the last bus, or the one claimant is a bridge that takes the access on
     abbrev Seeing : ℕ → ℕ → Bool → Sight → Images → Type 0
-    Seeing bus driver type0 (Ends e) u = (crossingsOf e ≡ 0) × Last bus driver type0 e u
+    Seeing bus driver type0 (Ends e) u = Last bus driver type0 e u
     Seeing bus driver type0 (Crosses g) u =
         (type0 ≡ false) × (claimantsOn bus driver ≡ g ∷ []) × (isBridge (t .node g .kind) ≡ true)
 
-    owned-sees : (bus driver g : ℕ) → claimantsOn bus driver ≡ g ∷ [] → Seeing bus driver false (owned t h im x g) im
+    owned-sees : (bus driver g : ℕ) → claimantsOn bus driver ≡ g ∷ [] → Seeing bus driver false (owned t im x g) im
     unfolding owned
     owned-sees bus driver g one =
-        tested (eqb g host) (λ a. rw a (refl, (one ∙ ap (λ (k : ℕ). k ∷ []) (eqb-true g host a), refl)))
+        tested (eqb g host) (λ a. rw a (one ∙ ap (λ (k : ℕ). k ∷ []) (eqb-true g host a), refl))
         (λ a.
         tested (isBridge (t .node g .kind)) (λ b. rw (a, b) (refl, one, b))
         (λ b.
-        let c = claimants-claim (λ k. claims t h im (x .space) bus k (x .address)) driver (agents t bus) g [] one in
+        let c = claimants-claim (λ k. claims t im (x .space) bus k (x .address)) driver (agents t bus) g [] one in
         let r = reach (deviceOf (t .node g) (view t im g)) (isIo (x .space)) (x .address) (device-reaches bus g (eqb-false g host a) b c) in
-        rw (a, b) (refl, (one, r, r .offset))))
+        rw (a, b) (one, r, r .offset)))
 
     claimed-sees : (bus driver : ℕ) (l : List ℕ) → claimantsOn bus driver ≡ l → length l ≤ 1
-        → Seeing bus driver false (claimed t h im x bus driver (firstTwo l) .sight) (claimed t h im x bus driver (firstTwo l) .after)
+        → Seeing bus driver false (claimed t im x bus driver (firstTwo l) .sight) (claimed t im x bus driver (firstTwo l) .after)
     unfolding claimed unclaimed
-    claimed-sees bus driver [] e n = (refl, (refl, e))
+    claimed-sees bus driver [] e n = (refl, e)
     claimed-sees bus driver (g ∷ []) e n = owned-sees bus driver g e
     claimed-sees bus driver (g ∷ (k ∷ l)) e n = absurd (omega arith)
-
-    served-sees : (bus driver g : ℕ) → Selected t bus (x .device) g
-        → Seeing bus driver true (served t im x g .sight) (served t im x g .after)
-    unfolding served
-    served-sees bus driver g s = tested (x .write) (λ q. rw q (refl, (g, s, refl))) (λ q. rw q (refl, (g, s, refl, refl)))
 
     direct-sees : (bus driver : ℕ) → Seeing bus driver true (direct t im x bus driver .sight) (direct t im x bus driver .after)
     unfolding direct unclaimed
     direct-sees bus driver =
         tested (eqb (target t bus (x .device)) 255)
-        (λ q. rw q (refl, (refl, none-selected t bus (x .device) few (eqb-true _ 255 q))))
-        (λ q. rw q (served-sees bus driver (target t bus (x .device)) (target-selected t bus (x .device) (eqb-false _ 255 q))))
+        (λ q. rw q (refl, none-selected t bus (x .device) few (eqb-true _ 255 q)))
+        (λ q. rw q (target-selected t bus (x .device) (eqb-false _ 255 q), refl))
 
     look-sees : (bus driver : ℕ) (type0 : Bool) → (type0 ≡ false → length (claimantsOn bus driver) ≤ 1)
-        → Seeing bus driver type0 (look t h im x bus driver type0 .sight) (look t h im x bus driver type0 .after)
+        → Seeing bus driver type0 (look t im x bus driver type0 .sight) (look t im x bus driver type0 .after)
     unfolding look
     look-sees bus driver true one = direct-sees bus driver
     look-sees bus driver false one = claimed-sees bus driver (claimantsOn bus driver) refl (one refl)
@@ -373,39 +299,39 @@ module _ (t : Tree) (h : Range) (im : Images) (x : Access) where
         → ((g : ℕ) → type0 ≡ false → Taken t bus driver g → claimantsOn bus driver ≡ g ∷ [] → isBridge (t .node g .kind) ≡ true
         → Went bus driver false (cross g im))
         → Went bus driver type0 (follow cross s v)
-    follow-went bus driver type0 cross (Ends e) v f s on = ended bus driver type0 e v (s .0) (s .1)
+    follow-went bus driver type0 cross (Ends e) v f s on = ended bus driver type0 e v s
     follow-went bus driver type0 cross (Crosses g) v f s on = rw (f .1, s .0) (on g (s .0) (f .0) (s .1) (s .2))
 
     -- a rule for who may drive on a bus, Type 0 or not, which holds for every bridge that takes the access on; under it an access
     -- that is claimed has one claimant
-    module _ (ok : rackRefusal t ≡ 0) (Drives : ℕ → ℕ → Bool → Type 0)
+    module _ (ok : rackRefusal t ≡ 0) (st : Stored t) (Drives : ℕ → ℕ → Bool → Type 0)
         (one : (bus driver : ℕ) → IsBus t bus → Drives bus driver false → length (claimantsOn bus driver) ≤ 1)
         (next : (bus driver g : ℕ) → IsBus t bus → Drives bus driver false → Taken t bus driver g
         → Drives (otherBus t bus g) g (turnsType0 t im x bus g)) where
       went : (m bus driver : ℕ) (type0 : Bool) → IsBus t bus → Enough t bus driver m → Drives bus driver type0
-          → Went bus driver type0 (busStep (suc (m + m)) t h x im bus driver type0)
+          → Went bus driver type0 (busStep (suc (m + m)) t im x bus driver type0)
       unfolding busStep
       went zero bus driver type0 is en dr =
-          follow-went bus driver type0 (λ g v. bridgeStep 0 t h x v bus g) (look t h im x bus driver type0 .sight)
-          (look t h im x bus driver type0 .after) (look-follows t bus h im x driver type0)
+          follow-went bus driver type0 (λ g v. bridgeStep 0 t v x bus g) (look t im x bus driver type0 .sight)
+          (look t im x bus driver type0 .after) (look-follows t bus im x driver type0)
           (look-sees bus driver type0 (λ e. one bus driver is (rw e at dr)))
           (λ g e k c b. absurd (onward t ok bus driver 0 g is en k .left refl))
       went (suc m) bus driver type0 is en dr =
           let p : suc m + suc m ≡ suc (suc (m + m)) = omega arith in
           rw p
-          (follow-went bus driver type0 (λ g v. bridgeStep (suc (suc (m + m))) t h x v bus g) (look t h im x bus driver type0 .sight)
-          (look t h im x bus driver type0 .after) (look-follows t bus h im x driver type0)
+          (follow-went bus driver type0 (λ g v. bridgeStep (suc (suc (m + m))) t v x bus g) (look t im x bus driver type0 .sight)
+          (look t im x bus driver type0 .after) (look-follows t bus im x driver type0)
           (look-sees bus driver type0 (λ e. one bus driver is (rw e at dr)))
           (λ g e k c b.
           let o = onward t ok bus driver (suc m) g is en k in
           let s : suc m - 1 ≡ m = omega arith in
-          let r = busStep (suc (m + m)) t h x im (otherBus t bus g) g (turnsType0 t im x bus g) in
+          let r = busStep (suc (m + m)) t im x (otherBus t bus g) g (turnsType0 t im x bus g) in
           across bus driver g r c b
           (went m (otherBus t bus g) g (turnsType0 t im x bus g) (o .place) (rw s at (o .enough)) (next bus driver g is (rw e at dr) k))))
 
       -- then an access goes its way from a bus, however it is driven
       pub from-went : (bus driver : ℕ) (type0 : Bool) → IsBus t bus → Drives bus driver type0
-          → Went bus driver type0 (from t h x im bus driver type0)
+          → Went bus driver type0 (from t im x bus driver type0)
       from-went bus driver type0 is dr =
           let p : possible t bus + possible t bus + 1 ≡ suc (possible t bus + possible t bus) = omega arith in
-          rw p (went (possible t bus) bus driver type0 is (inl (le-refl (possible t bus))) dr)
+          rw p (went (possible t bus) bus driver type0 is (inl (omega (arith, possible-is t st bus is))) dr)

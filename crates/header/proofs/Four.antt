@@ -1,12 +1,24 @@
--- Four byte writes one after the other are the register's write, below 40h.
+-- A register's read and write below 40h are those of its four bytes, one after the other; a byte's write past the end changes nothing.
 -- Assumes nothing.
-use mathlib.Core.Path.{_≡_}
+use mathlib.Core.Path.{_≡_, refl, sym}
+use mathlib.Core.Bool.{Bool, true, false}
 use mathlib.Core.List.{List}
-use Prim.Native.Nat.{ℕ, _+_, _/_, _%_, _<_}
+use Prim.Native.Nat.{ℕ, _+_, _/_, _%_, _≤_, _<_}
 use borrow.Author.Tests.{lt-ltb}
 use lib.Dec.{eqb}
+use lib.ListN.{length, getD, set}
+use lib.Seq.{set-out}
 use Rattle.rack.specs.declared.Node.{Node}
-use Rattle.header.specs.Register.{writeByte, writeDword, writeRegister}
+use Rattle.header.specs.declared.Side.{Side}
+use Rattle.header.specs.declared.StatusBit.{StatusBit}
+use Rattle.header.specs.Byte.{writtenByte}
+use Rattle.header.specs.Mask.{writeMask, clearMask}
+use Rattle.header.specs.Register.{dwordOf, readRegister, writeByte, writeDword, writeRegister, statusAt, setStatus}
+
+pub four-read : (p : List ℕ) (at : ℕ) {a b c d r : ℕ} → at < 64 → a ≡ getD p at 0 → b ≡ getD p (at + 1) 0 → c ≡ getD p (at + 2) 0
+    → d ≡ getD p (at + 3) 0 → r ≡ dwordOf a b c d → r ≡ readRegister p at
+unfolding readRegister
+four-read p at h ea eb ec ed er = rw (lt-ltb at 64 h, ← ea, ← eb, ← ec, ← ed) er
 
 pub four : (n : Node) (p : List ℕ) {q r s t : List ℕ} (at e d : ℕ) → at < 64
     → q ≡ writeByte n p at (eqb (e % 2) 1) (d % 256)
@@ -16,3 +28,19 @@ pub four : (n : Node) (p : List ℕ) {q r s t : List ℕ} (at e d : ℕ) → at 
     → t ≡ writeRegister n p at e d
 unfolding writeDword writeRegister
 four n p at e d h e1 e2 e3 e4 = rw (lt-ltb at 64 h) (cc)
+
+module _ (n : Node) (p : List ℕ) (at : ℕ) where
+  pub byte-on : (on : Bool) (put : ℕ) {m k x : ℕ} → on ≡ true → m ≡ writeMask n at → k ≡ clearMask n at
+      → x ≡ writtenByte (getD p at 0) put m k → set p at x ≡ writeByte n p at on put
+  unfolding writeByte
+  byte-on on put q em ek ex = rw (q, ← em, ← ek, ex)
+
+  pub byte-past : (on : Bool) (put : ℕ) → length p ≤ at → p ≡ writeByte n p at on put
+  unfolding writeByte
+  byte-past true put h = sym (set-out p at _ h)
+  byte-past false put h = refl
+
+pub status-past : (n : Node) (p : List ℕ) (side : Side) (bit : StatusBit) {at : ℕ} → at ≡ statusAt (n .kind) side → length p ≤ at
+    → p ≡ setStatus n p side bit
+unfolding setStatus
+status-past n p side bit e h = rw (← e) (sym (set-out p _ _ h))

@@ -2,3 +2,5 @@
 mod Power
 mod Four
 mod Restore
+mod Masks
+mod Sized

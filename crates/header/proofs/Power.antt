@@ -9,11 +9,14 @@ use lib.Pow.{pow-mono, shl-exact}
 
 module _ (e : ℕ) where
   -- a shifted 1 does not wrap
-  pub shifted : e < 32 → 1 * 2 ^ e % 2 ^ 64 ≡ 2 ^ e
+  shifted : e < 32 → 1 * 2 ^ e % 2 ^ 64 ≡ 2 ^ e
   shifted h = shl-exact 1 e 64 (lit< tt) (omega arith) ∙ one-mul (2 ^ e)
 
   pub shifted-le : e < 32 → 1 * 2 ^ e % 2 ^ 64 ≤ 2 ^ 32
   shifted-le h = rw (shifted h) (pow-mono {j = 32} (omega arith))
+
+  pub bits-above : e < 32 → 2 ^ 32 - 1 * 2 ^ e % 2 ^ 64 ≡ 2 ^ 32 - 2 ^ e
+  bits-above h = rw (shifted h)
 
   -- no bit of a dword is at or above place 32
   pub none-above : 32 ≤ e → 0 ≡ 2 ^ 32 - 2 ^ e

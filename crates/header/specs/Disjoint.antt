@@ -1,19 +1,17 @@
 -- The write and clear masks never meet: one computed test over the tables, and with it the masks of every node.
 -- Assumes nothing.
 use mathlib.Core.Path.{_≡_, refl, sym, ap, _∙_}
-use mathlib.Core.Bool.{Bool, true, false, not, _&&_, cond, and-eq-true-iff}
-use Prim.Native.Nat.{ℕ, _+_, _<_, _≤_, min}
+use mathlib.Core.Bool.{Bool, true, false, _&&_, cond, and-eq-true-iff}
+use Prim.Native.Nat.{ℕ, _<_, _≤_, min}
 use native.Mathlib.Nat.{mod-lt}
 use borrow.Author.Tests.{ltb-true, ltb-false, eqb-true}
 use lib.Bits.{bitAnd, bitOr, and-zero-r}
-use lib.Dec.{leb, ltb, eqb, lit<}
+use lib.Dec.{ltb, eqb, lit<}
 use lib.ListN.{length, getD}
 use Rattle.rack.specs.declared.Kind.{Kind}
 use Rattle.rack.specs.declared.Kind.the-variants.{Bridge, Device}
 use Rattle.rack.specs.declared.Node.{Node}
-use Rattle.rack.specs.Node.{isBridge}
 use Rattle.header.specs.Bits.{bit, bit-and, bit-of-zero}
-use Rattle.header.specs.Offset.{BASE-ADDRESS}
 use Rattle.header.specs.Tables.{writeTable, clearTable, resetTable}
 use Rattle.header.specs.Mask.{regionByte, inRegion, regionWrite, regionReset, writeMask, clearMask, resetByte}
 use Rattle.header.specs.Every.{every, at, past}
@@ -104,10 +102,6 @@ module _ (n : Node) (at : ℕ) where
   pub region-clear : inRegion n at ≡ true → clearMask n at ≡ 0
   unfolding clearMask
   region-clear = entry (n .kind) at .plain
-
-  -- the regions end below 28h
-  pub region-below : inRegion n at ≡ true → at < BASE-ADDRESS + 24
-  region-below e = ltb-true at (BASE-ADDRESS + 24) (and-eq-true-iff (leb BASE-ADDRESS at) _ .0 (and-eq-true-iff (not (isBridge (n .kind))) _ .0 e .1) .1)
 
   -- no bit is both written and cleared
   pub disjoint : bitAnd (writeMask n at) (clearMask n at) ≡ 0

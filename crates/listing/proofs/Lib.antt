@@ -1,3 +1,4 @@
 -- What the functions' proofs use.
 mod Copied
 mod Digits
+mod Fields

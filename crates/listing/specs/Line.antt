@@ -7,8 +7,8 @@ use Rattle.claims.specs.declared.Space.{Space}
 use Rattle.claims.specs.declared.Space.the-variants.{Memory, Io, Configuration}
 use Rattle.steps.specs.declared.Outcome.{Outcome}
 use Rattle.steps.specs.declared.Outcome.the-variants.{Abort, Done, Target}
-use Rattle.steps.specs.declared.Ending.{Ending}
-use Rattle.steps.specs.declared.Ending.the-variants.{Data, Stored, Owner, Host, Unclaimed, Clash, Silent}
+use Rattle.simulator.specs.declared.Ending.{Ending}
+use Rattle.simulator.specs.declared.Ending.the-variants.{Data, Stored, Owner, Host, Unclaimed, Clash, Silent}
 use Rattle.overlap.specs.declared.Report.{Report}
 use Rattle.overlap.specs.declared.Report.the-variants.{Pass, Fault}
 use Rattle.listing.specs.declared.Line.{Line}
@@ -42,14 +42,14 @@ spaceWord Io = ioWord
 -- 01: '`data` crossings and 8 hex digits; `stored` crossings; `owner` crossings, node, region, offset (16 hex digits); `host` crossings,
 -- offset from its first address (16 too); `unclaimed` crossings, holder, then `abort` (no crossing), `done` or `target`; `clash` crossings,
 -- holder, the first two claimants in agent order; `silent`'
-unfoldable pub endingFields : Ending → List (List ℕ)
-endingFields (Data crossings value) = dataWord ∷ decimalOf crossings ∷ hexOf 8 value ∷ []
-endingFields (Stored crossings) = storedWord ∷ decimalOf crossings ∷ []
-endingFields (Owner crossings node region offset) = ownerWord ∷ decimalOf crossings ∷ decimalOf node ∷ decimalOf region ∷ hexOf 16 offset ∷ []
-endingFields (Host crossings offset) = hostWord ∷ decimalOf crossings ∷ hexOf 16 offset ∷ []
-endingFields (Unclaimed crossings holder outcome) = unclaimedWord ∷ decimalOf crossings ∷ decimalOf holder ∷ outcomeWord outcome ∷ []
-endingFields (Clash crossings holder first second) = clashWord ∷ decimalOf crossings ∷ decimalOf holder ∷ decimalOf first ∷ decimalOf second ∷ []
-endingFields Silent = silentWord ∷ []
+unfoldable pub endingFields : ℕ → Ending → List (List ℕ)
+endingFields crossings (Data value) = dataWord ∷ decimalOf crossings ∷ hexOf 8 value ∷ []
+endingFields crossings Stored = storedWord ∷ decimalOf crossings ∷ []
+endingFields crossings (Owner node region offset) = ownerWord ∷ decimalOf crossings ∷ decimalOf node ∷ decimalOf region ∷ hexOf 16 offset ∷ []
+endingFields crossings (Host offset) = hostWord ∷ decimalOf crossings ∷ hexOf 16 offset ∷ []
+endingFields crossings (Unclaimed holder outcome) = unclaimedWord ∷ decimalOf crossings ∷ decimalOf holder ∷ outcomeWord outcome ∷ []
+endingFields crossings (Clash holder first second) = clashWord ∷ decimalOf crossings ∷ decimalOf holder ∷ decimalOf first ∷ decimalOf second ∷ []
+endingFields crossings Silent = silentWord ∷ []
 
 -- 01: '`pass`; `fault` holder, `config`/`memory`/`io`, value (16 hex digits), driver, two agents'
 unfoldable pub reportFields : Report → List (List ℕ)
@@ -58,8 +58,8 @@ reportFields (Fault holder space value driver first second) =
     faultWord ∷ decimalOf holder ∷ spaceWord space ∷ hexOf 16 value ∷ decimalOf driver ∷ decimalOf first ∷ decimalOf second ∷ []
 
 -- 01: 'A line holds the event number from 1, an ending, and decimal fields', as `1 data 0 00101234` or `2 unclaimed 0 255 abort`
-abbrev pub endingLine : ℕ → Ending → List ℕ
-endingLine n e = lineOf (decimalOf n) (endingFields e)
+abbrev pub endingLine : ℕ → ℕ → Ending → List ℕ
+endingLine n crossings e = lineOf (decimalOf n) (endingFields crossings e)
 
 -- the same for a check, as `3 pass` or `4 fault 0 memory 0000000090000000 2 0 1`
 abbrev pub reportLine : ℕ → Report → List ℕ

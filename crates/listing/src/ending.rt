@@ -6,11 +6,11 @@ ghost use Rattle.listing.specs.Line.{textOf, outcomeWord, endingLine};
 ghost use Rattle.listing.specs.Added.{Added};
 use crate::Line;
 use crate::field::begun;
-use steps::Ending;
+use simulator::Ending;
 use steps::Outcome;
 
 fn data_line(n: u32, crossings: u32, value: u32) -> Line
-    ensures { λ r. ⌜ (textOf r ≡ endingLine n (Ending.Data crossings value)) × (r .len ≤ 96) ⌝ }
+    ensures { λ r. ⌜ (textOf r ≡ endingLine n crossings (Ending.Data value)) × (r .len ≤ 96) ⌝ }
 {
     begun(n, b"data")
         .decimal_field(crossings)
@@ -19,13 +19,13 @@ fn data_line(n: u32, crossings: u32, value: u32) -> Line
 }
 
 fn stored_line(n: u32, crossings: u32) -> Line
-    ensures { λ r. ⌜ (textOf r ≡ endingLine n (Ending.Stored crossings)) × (r .len ≤ 96) ⌝ }
+    ensures { λ r. ⌜ (textOf r ≡ endingLine n crossings Ending.Stored) × (r .len ≤ 96) ⌝ }
 {
     begun(n, b"stored").decimal_field(crossings).byte(b'\n')
 }
 
 fn owner_line(n: u32, crossings: u32, node: u8, region: u8, offset: u64) -> Line
-    ensures { λ r. ⌜ (textOf r ≡ endingLine n (Ending.Owner crossings node region offset)) × (r .len ≤ 96) ⌝ }
+    ensures { λ r. ⌜ (textOf r ≡ endingLine n crossings (Ending.Owner node region offset)) × (r .len ≤ 96) ⌝ }
 {
     begun(n, b"owner")
         .decimal_field(crossings)
@@ -36,7 +36,7 @@ fn owner_line(n: u32, crossings: u32, node: u8, region: u8, offset: u64) -> Line
 }
 
 fn host_line(n: u32, crossings: u32, offset: u64) -> Line
-    ensures { λ r. ⌜ (textOf r ≡ endingLine n (Ending.Host crossings offset)) × (r .len ≤ 96) ⌝ }
+    ensures { λ r. ⌜ (textOf r ≡ endingLine n crossings (Ending.Host offset)) × (r .len ≤ 96) ⌝ }
 {
     begun(n, b"host")
         .decimal_field(crossings)
@@ -58,7 +58,7 @@ impl Line {
 }
 
 fn unclaimed_line(n: u32, crossings: u32, holder: u8, outcome: Outcome) -> Line
-    ensures { λ r. ⌜ (textOf r ≡ endingLine n (Ending.Unclaimed crossings holder outcome)) × (r .len ≤ 96) ⌝ }
+    ensures { λ r. ⌜ (textOf r ≡ endingLine n crossings (Ending.Unclaimed holder outcome)) × (r .len ≤ 96) ⌝ }
 {
     begun(n, b"unclaimed")
         .decimal_field(crossings)
@@ -68,7 +68,7 @@ fn unclaimed_line(n: u32, crossings: u32, holder: u8, outcome: Outcome) -> Line
 }
 
 fn clash_line(n: u32, crossings: u32, holder: u8, first: u8, second: u8) -> Line
-    ensures { λ r. ⌜ (textOf r ≡ endingLine n (Ending.Clash crossings holder first second)) × (r .len ≤ 96) ⌝ }
+    ensures { λ r. ⌜ (textOf r ≡ endingLine n crossings (Ending.Clash holder first second)) × (r .len ≤ 96) ⌝ }
 {
     begun(n, b"clash")
         .decimal_field(crossings)
@@ -78,36 +78,30 @@ fn clash_line(n: u32, crossings: u32, holder: u8, first: u8, second: u8) -> Line
         .byte(b'\n')
 }
 
-fn silent_line(n: u32) -> Line
-    ensures { λ r. ⌜ (textOf r ≡ endingLine n Ending.Silent) × (r .len ≤ 96) ⌝ }
+fn silent_line(n: u32, crossings: u32) -> Line
+    ensures { λ r. ⌜ (textOf r ≡ endingLine n crossings Ending.Silent) × (r .len ≤ 96) ⌝ }
 {
     begun(n, b"silent").byte(b'\n')
 }
 
-pub fn ending_line(n: u32, e: Ending) -> Line
-    ensures { λ r. ⌜ (textOf r ≡ endingLine n e) × (r .len ≤ 96) ⌝ }
+pub fn ending_line(n: u32, crossings: u32, e: Ending) -> Line
+    ensures { λ r. ⌜ (textOf r ≡ endingLine n crossings e) × (r .len ≤ 96) ⌝ }
 {
     match e {
-        Ending::Data { crossings, value } => data_line(n, crossings, value),
-        Ending::Stored { crossings } => stored_line(n, crossings),
+        Ending::Data { value } => data_line(n, crossings, value),
+        Ending::Stored => stored_line(n, crossings),
         Ending::Owner {
-            crossings,
             node,
             region,
             offset,
         } => owner_line(n, crossings, node, region, offset),
-        Ending::Host { crossings, offset } => host_line(n, crossings, offset),
-        Ending::Unclaimed {
-            crossings,
-            holder,
-            outcome,
-        } => unclaimed_line(n, crossings, holder, outcome),
+        Ending::Host { offset } => host_line(n, crossings, offset),
+        Ending::Unclaimed { holder, outcome } => unclaimed_line(n, crossings, holder, outcome),
         Ending::Clash {
-            crossings,
             holder,
             first,
             second,
         } => clash_line(n, crossings, holder, first, second),
-        Ending::Silent => silent_line(n),
+        Ending::Silent => silent_line(n, crossings),
     }
 }

@@ -1,128 +1,184 @@
 // The walk of a file from record to record, up to the first faulty one.
 ghost use mathlib.Core.Path.{_≡_};
+ghost use mathlib.Core.Bool.{true, false};
 ghost use Prim.Native.Nat.{_+_, _≤_, _<_};
 ghost use lib.ListN.{length};
 ghost use Rattle.rack.specs.Table.{treeOf};
-ghost use Rattle.rack.specs.Grow.{noTree, grown};
+ghost use Rattle.rack.specs.First.{_or_};
+ghost use Rattle.rack.specs.Grow.{grown};
 ghost use Rattle.rack.specs.Refusal.{rackRefusal};
-ghost use Rattle.rackfile.specs.Record.{nodeIn};
-ghost use Rattle.rackfile.specs.Load.{firstFault, shapeFault, rackFault, eventFault, rackEnds, rackFrom, rackIn, rackLater, eventFirst, rackAlone, eventsFrom, fileIn};
-ghost use Rattle.rackfile.specs.Loads.{Loads, Faults};
+ghost use Rattle.rackfile.specs.Number.{byteIn};
+ghost use Rattle.rackfile.specs.Record.{sizeOf, classIn, isHost, isNode, isEvent, isKnown, nodeIn};
+ghost use Rattle.rackfile.specs.Load.{hostWrong, followsEvent, shapeFault, nodeFault, fieldFault, recordFault, taken, atStart, readFrom, readIn, fileIn, rackAlone};
+ghost use Rattle.rackfile.specs.Loads.{readingOf, Steps, Loads};
 use header::register::byte_at;
+use rack::Range;
 use rack::grow::add_node;
 use rack::grow::no_table;
-use rackfile::Fault;
+use rack::table::Table;
+use rack::table::count_of;
+use rackfile::Class;
 use rackfile::Loaded;
+use rackfile::Walk;
 use rackfile::events::event_in;
 use rackfile::events::event_wrong;
+use rackfile::record::class_in;
 use rackfile::record::cut_short;
+use rackfile::record::host_in;
 use rackfile::record::is_event;
 use rackfile::record::is_host;
 use rackfile::record::is_node;
+use rackfile::record::is_rack;
 use rackfile::record::no_kind;
 use rackfile::record::node_in;
 use rackfile::record::size_of;
 use refusals::node_refusal;
 
-// 2 to 4 of the first record.
-fn first_fault(file: &[u8]) -> u8
-    ensures { λ r. ⌜ r ≡ firstFault (now (file .entry)) ⌝ }
+// 4
+fn host_wrong(c: Class, o: usize) -> bool
+    ensures { λ r. ⌜ r ≡ hostWrong c o ⌝ }
 {
-    if no_kind(file, 0) {
-        return 2;
-    }
-    if cut_short(file, 0) {
-        return 3;
-    }
-    if is_host(byte_at(file, 0)) { 0 } else { 4 }
+    let host = is_host(c);
+    if o == 0 { !host } else { host }
 }
 
-// 2 to 4 of a later record.
-fn shape_fault(file: &[u8], o: usize) -> u8
-    requires { ⌜ o ≤ 65536 ⌝ }
-    ensures { λ r. ⌜ r ≡ shapeFault (now (file .entry)) o ⌝ }
+// 5
+fn follows_event(c: Class, events: usize) -> bool
+    ensures { λ r. ⌜ r ≡ followsEvent c events ⌝ }
 {
-    if no_kind(file, o) {
+    let rack = is_rack(c);
+    rack & !(events == 0)
+}
+
+// 2 to 5; `known` says whether events are.
+fn shape_fault(file: &[u8], known: bool, c: Class, o: usize, events: usize) -> u8
+    requires { ⌜ o ≤ 65536 ⌝ }
+    ensures { λ r. ⌜ r ≡ shapeFault (isKnown known) (now (file .entry)) c o events ⌝ }
+{
+    if no_kind(known, c) {
         return 2;
     }
     if cut_short(file, o) {
         return 3;
     }
-    if is_host(byte_at(file, o)) { 4 } else { 0 }
-}
-
-fn rack_ends(file: &[u8], o: usize) -> bool
-    ensures { λ r. ⌜ r ≡ rackEnds (now (file .entry)) o ⌝ }
-{
-    let kind = byte_at(file, o);
-    (file.len() <= o) | is_event(kind)
-}
-
-// 2 to 5 and 13 of a record from the first event on.
-fn event_fault(file: &[u8], o: usize, words: &[u64; 192], count: u8) -> u8
-    requires { ⌜ o ≤ 65536 ⌝ }
-    ensures { λ r. ⌜ r ≡ eventFault (now (file .entry)) o (treeOf count (now (words .entry))) ⌝ }
-{
-    let shape = shape_fault(file, o);
-    if shape != 0 {
-        return shape;
+    if host_wrong(c, o) {
+        return 4;
     }
-    if is_node(byte_at(file, o)) {
+    if follows_event(c, events) {
         return 5;
     }
-    if event_wrong(words, count, event_in(file, o)) {
-        13
-    } else {
-        0
-    }
+    0
 }
 
-// The node at an offset behind the others, and its refusal; 0 where there is none.
-fn take_node(file: &[u8], o: usize, words: &mut [u64; 192], count: u8) -> u8
-    requires { ⌜ (o ≤ 65536) × (rackRefusal (treeOf count (now words)) ≡ 0) ⌝ }
-    ensures { λ r. ⌜ (r ≡ rackFault (now (file .entry)) o (treeOf count (now (words .entry)))) × (r ≡ 0 → (count < 96) × (treeOf (count + 1) (now (words .exit)) ≡ grown (treeOf count (now (words .entry))) (nodeIn (now (file .entry)) o))) ⌝ }
+// The offset behind a record.
+fn past(file: &[u8], o: usize) -> usize
+    requires { ⌜ o ≤ 65536 ⌝ }
+    ensures { λ r. ⌜ r ≡ o + sizeOf (byteIn (now (file .entry)) o) ⌝ }
 {
-    let shape = shape_fault(file, o);
-    if shape != 0 {
-        return shape;
-    }
+    o + size_of(byte_at(file, o))
+}
+
+// 6 to 10 of the node at an offset; 0 where there is none, and then the node stands behind the others.
+fn take_node(file: &[u8], o: usize, table: &mut Table) -> u8
+    requires { ⌜ (o ≤ 65536) × (rackRefusal (treeOf (now table)) ≡ 0) ⌝ }
+    ensures { λ r. ⌜ (r ≡ nodeFault (now (file .entry)) o (treeOf (now (table .entry)))) × (r ≡ 0 → treeOf (now (table .exit)) ≡ grown (treeOf (now (table .entry))) (nodeIn (now (file .entry)) o)) ⌝ }
+{
+    let count = count_of(table);
     if 96 <= count {
         return 6;
     }
     let n = node_in(file, o);
-    add_node(words, count, n);
-    node_refusal(words, count as usize)
+    add_node(table, n);
+    node_refusal(table, count as usize)
 }
 
-// The records of a rack behind its host.
-fn rack_from(file: &[u8]) -> Loaded
-    requires { ⌜ (length (now file) ≤ 65536) × (17 ≤ length (now file)) ⌝ }
-    ensures { λ r. ⌜ Loads r (rackFrom (length (now (file .entry))) (now (file .entry)) 17 noTree) ⌝ }
+// A walk that stops at a faulty record.
+fn stopped(refusal: u8) -> Walk
+    ensures { λ r. ⌜ r .refusal ≡ refusal ⌝ }
 {
-    let t = no_table();
-    let mut words = t.words;
-    let mut count: u8 = 0;
-    let mut o: usize = 17;
-    loop {
-        if rack_ends(file, o) {
-            return Loaded {
-                refusal: 0,
-                offset: o,
-                count,
-                words,
-            };
-        }
-        let fault = take_node(file, o, &mut words, count);
-        if fault != 0 {
-            return Loaded {
-                refusal: fault,
-                offset: o,
-                count,
-                words,
-            };
-        }
-        count += 1;
-        o += size_of(byte_at(file, o));
+    Walk {
+        refusal,
+        offset: 0,
+        events: 0,
+    }
+}
+
+fn past_node(file: &[u8], table: &mut Table, w: Walk) -> Walk
+    requires { ⌜ (w .offset ≤ 65536) × (isNode (classIn (now file) (w .offset)) ≡ true) × (rackRefusal (treeOf (now table)) ≡ 0) ⌝ }
+    ensures { λ r. ⌜ Steps r (now (table .exit)) (nodeFault (now (file .entry)) (w .offset) (treeOf (now (table .entry)))) (taken (now (file .entry)) (readingOf w (now (table .entry)))) ⌝ }
+{
+    let offset = past(file, w.offset);
+    let fault = take_node(file, w.offset, table);
+    if fault != 0 {
+        return stopped(fault);
+    }
+    Walk {
+        refusal: 0,
+        offset,
+        events: w.events,
+    }
+}
+
+// Where the events begin, once there is one at o.
+fn begin(events: usize, o: usize) -> usize
+    ensures { λ r. ⌜ r ≡ events or o ⌝ }
+{
+    if events == 0 { o } else { events }
+}
+
+fn past_event(file: &[u8], table: &Table, w: Walk) -> Walk
+    requires { ⌜ (w .offset ≤ 65536) × (isEvent (classIn (now file) (w .offset)) ≡ true) ⌝ }
+    ensures { λ r. ⌜ Steps r (now (table .entry)) (fieldFault (now (file .entry)) (w .offset) (treeOf (now (table .entry)))) (taken (now (file .entry)) (readingOf w (now (table .entry)))) ⌝ }
+{
+    if event_wrong(table, event_in(file, w.offset)) {
+        return stopped(13);
+    }
+    Walk {
+        refusal: 0,
+        offset: past(file, w.offset),
+        events: begin(w.events, w.offset),
+    }
+}
+
+fn past_host(file: &[u8], table: &mut Table, w: Walk) -> Walk
+    requires { ⌜ (w .offset ≤ 65536) × (isHost (classIn (now file) (w .offset)) ≡ true) ⌝ }
+    ensures { λ r. ⌜ Steps r (now (table .exit)) 0 (taken (now (file .entry)) (readingOf w (now (table .entry)))) ⌝ }
+{
+    *table = no_table(host_in(file, w.offset));
+    Walk {
+        refusal: 0,
+        offset: past(file, w.offset),
+        events: w.events,
+    }
+}
+
+// The fault of the record in front of which a walk stands; 0 where there is none, and then the walk stands behind it.
+fn step(file: &[u8], known: bool, table: &mut Table, w: Walk) -> Walk
+    requires { ⌜ (w .offset ≤ 65536) × (rackRefusal (treeOf (now table)) ≡ 0) ⌝ }
+    ensures { λ r. ⌜ Steps r (now (table .exit)) (recordFault (isKnown known) (now (file .entry)) (readingOf w (now (table .entry)))) (taken (now (file .entry)) (readingOf w (now (table .entry)))) ⌝ }
+{
+    let class = class_in(file, w.offset);
+    let fault = shape_fault(file, known, class, w.offset, w.events);
+    if fault != 0 {
+        return stopped(fault);
+    }
+    if is_node(class) {
+        return past_node(file, table, w);
+    }
+    if is_event(class) {
+        return past_event(file, table, w);
+    }
+    past_host(file, table, w)
+}
+
+// In front of the first record.
+fn start() -> Walk
+    ensures { λ r. ⌜ (r .offset ≡ 0) × (r .events ≡ 0) ⌝ }
+{
+    Walk {
+        refusal: 0,
+        offset: 0,
+        events: 0,
     }
 }
 
@@ -133,14 +189,33 @@ fn refused_at(refusal: u8, offset: usize) -> Loaded
     Loaded {
         refusal,
         offset,
-        count: 0,
-        words: [0u64; 192],
+        table: [0u64; 195],
     }
 }
 
-// The rack of a file: 1 to 4 and 6 to 10.
-pub fn load_rack(file: &[u8]) -> Loaded
-    ensures { λ r. ⌜ Loads r (rackIn (now (file .entry))) ⌝ }
+// Record by record, up to the first faulty one.
+fn read(file: &[u8], known: bool) -> Loaded
+    requires { ⌜ length (now file) ≤ 65536 ⌝ }
+    ensures { λ r. ⌜ Loads r (readFrom (length (now (file .entry))) (isKnown known) (now (file .entry)) atStart) ⌝ }
+{
+    let mut table = no_table(Range { first: 1, last: 0 });
+    let mut w = start();
+    while w.offset < file.len() {
+        let next = step(file, known, &mut table, w);
+        if next.refusal != 0 {
+            return refused_at(next.refusal, w.offset);
+        }
+        w = next;
+    }
+    Loaded {
+        refusal: 0,
+        offset: begin(w.events, w.offset),
+        table,
+    }
+}
+
+fn load(file: &[u8], known: bool) -> Loaded
+    ensures { λ r. ⌜ Loads r (readIn (isKnown known) (now (file .entry))) ⌝ }
 {
     if 65536 < file.len() {
         return refused_at(1, 65536);
@@ -148,80 +223,19 @@ pub fn load_rack(file: &[u8]) -> Loaded
     if file.len() == 0 {
         return refused_at(4, 0);
     }
-    let f = first_fault(file);
-    if f != 0 {
-        return refused_at(f, 0);
-    }
-    rack_from(file)
+    read(file, known)
 }
 
-// A rack with no event behind its host: an event kind is 2.
-fn load_later(file: &[u8]) -> Loaded
-    ensures { λ r. ⌜ Loads r (rackLater (now (file .entry))) ⌝ }
-{
-    let l = load_rack(file);
-    if l.refusal != 0 {
-        return l;
-    }
-    if l.offset < file.len() {
-        return refused_at(2, l.offset);
-    }
-    l
-}
-
-// Whether an event stands in the host's place.
-fn event_first(file: &[u8]) -> bool
-    ensures { λ r. ⌜ r ≡ eventFirst (now (file .entry)) ⌝ }
-{
-    let kind = byte_at(file, 0);
-    (file.len() <= 65536) & is_event(kind)
-}
-
-// A rack without events, as the C calls take it.
-pub fn load_alone(file: &[u8]) -> Loaded
-    ensures { λ r. ⌜ Loads r (rackAlone (now (file .entry))) ⌝ }
-{
-    if event_first(file) {
-        return refused_at(2, 0);
-    }
-    load_later(file)
-}
-
-// The first faulty record from the first event on.
-fn events_from(file: &[u8], start: usize, words: &[u64; 192], count: u8) -> Fault
-    requires { ⌜ length (now file) ≤ 65536 ⌝ }
-    ensures { λ r. ⌜ Faults r (eventsFrom (length (now (file .entry))) (now (file .entry)) start (treeOf count (now (words .entry)))) ⌝ }
-{
-    let mut o = start;
-    loop {
-        if file.len() <= o {
-            return Fault {
-                refusal: 0,
-                offset: o,
-            };
-        }
-        let f = event_fault(file, o, words, count);
-        if f != 0 {
-            return Fault {
-                refusal: f,
-                offset: o,
-            };
-        }
-        o += size_of(byte_at(file, o));
-    }
-}
-
-// A whole file, events too.
+// A whole file.
 pub fn load_file(file: &[u8]) -> Loaded
     ensures { λ r. ⌜ Loads r (fileIn (now (file .entry))) ⌝ }
 {
-    let l = load_rack(file);
-    if l.refusal != 0 {
-        return l;
-    }
-    let f = events_from(file, l.offset, &l.words, l.count);
-    if f.refusal != 0 {
-        return refused_at(f.refusal, f.offset);
-    }
-    l
+    load(file, true)
+}
+
+// The rack bytes of a C call: an event kind is 2.
+pub fn load_alone(file: &[u8]) -> Loaded
+    ensures { λ r. ⌜ Loads r (rackAlone (now (file .entry))) ⌝ }
+{
+    load(file, false)
 }

@@ -2,10 +2,9 @@
 ghost use mathlib.Core.Path.{_≡_};
 ghost use Rattle.registers.specs.Image.{images};
 ghost use Rattle.muzgante.specs.Called.{called, rackCheck};
-use answers::put_answer;
+use answers::put_reply;
 use answers::refuse;
 use loading::load_alone;
-use rackfile::record::host_in;
 
 // The check of a rack with its registers. Returns 0, or the refusal's number with `answer` all 0.
 #[no_mangle]
@@ -21,7 +20,6 @@ pub extern "C" fn rack_check<'a>(
     if l.refusal != 0 {
         return refuse(answer, l.refusal);
     }
-    let host = host_in(rack, 0);
-    let a = calls::runs::check_on(&l.words, l.count, bridges, devices, host);
-    put_answer(answer, a)
+    let r = calls::runs::check_on(&l.table, bridges, devices);
+    put_reply(answer, r)
 }

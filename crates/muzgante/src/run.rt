@@ -2,12 +2,11 @@
 ghost use mathlib.Core.Path.{_≡_};
 ghost use Rattle.registers.specs.Image.{images};
 ghost use Rattle.muzgante.specs.Called.{called, rackRun};
-use answers::put_answer;
+use answers::put_reply;
 use answers::refuse;
 use loading::load_alone;
 use rackfile::events::event_bytes;
 use rackfile::events::event_in;
-use rackfile::record::host_in;
 
 // One event of a rack on its registers. Returns 0, or the refusal's number with `answer` all 0 and both images untouched.
 #[no_mangle]
@@ -21,15 +20,14 @@ pub extern "C" fn rack_run(
     ensures { λ r. ⌜ called r (now (answer .exit)) (now (bridges .exit)) (now (devices .exit)) ≡ rackRun (now (rack .entry)) (now (event .entry)) (images (now (bridges .entry)) (now (devices .entry))) ⌝ }
 {
     let l = load_alone(rack);
-    let event_refusal = event_bytes(event);
     if l.refusal != 0 {
         return refuse(answer, l.refusal);
     }
-    if event_refusal != 0 {
-        return refuse(answer, event_refusal);
+    let refusal = event_bytes(event);
+    if refusal != 0 {
+        return refuse(answer, refusal);
     }
-    let host = host_in(rack, 0);
     let e = event_in(event, 0);
-    let a = calls::runs::run_on(&l.words, l.count, bridges, devices, host, e);
-    put_answer(answer, a)
+    let r = calls::runs::run_on(&l.table, bridges, devices, e);
+    put_reply(answer, r)
 }

@@ -1,7 +1,8 @@
 // What the classroom screen asks for besides: registers at reset, and the ends of windows and regions.
 ghost use mathlib.Core.Path.{_≡_};
 ghost use Rattle.registers.specs.Image.{images};
-ghost use Rattle.muzgante.specs.Called.{called, rackWindow, resetRefusal, resetIn};
+ghost use Rattle.answers.specs.Numbers.{zeros};
+ghost use Rattle.muzgante.specs.Called.{called, rackWindow, rackReset};
 use answers::put_ends;
 use answers::refuse;
 use loading::load_alone;
@@ -9,16 +10,16 @@ use loading::load_alone;
 // Both images filled with their reset values. Returns 0, or the refusal's number with both images untouched.
 #[no_mangle]
 pub extern "C" fn rack_reset(rack: &[u8], bridges: &mut [u8], devices: &mut [u8]) -> u8
-    ensures { λ r. ⌜ (r ≡ resetRefusal (now (rack .entry)) (images (now (bridges .entry)) (now (devices .entry)))) × (images (now (bridges .exit)) (now (devices .exit)) ≡ resetIn (now (rack .entry)) (images (now (bridges .entry)) (now (devices .entry)))) ⌝ }
+    ensures { λ r. ⌜ called r zeros (now (bridges .exit)) (now (devices .exit)) ≡ rackReset (now (rack .entry)) (images (now (bridges .entry)) (now (devices .entry))) ⌝ }
 {
     let l = load_alone(rack);
     if l.refusal != 0 {
         return l.refusal;
     }
-    if registers::fixed::lengths_wrong(&l.words, l.count, bridges, devices) {
+    if registers::fixed::lengths_wrong(&l.table, bridges, devices) {
         return 11;
     }
-    registers::reset::reset_images(&l.words, l.count, bridges, devices);
+    registers::reset::reset_images(&l.table, bridges, devices);
     0
 }
 
@@ -39,6 +40,6 @@ pub extern "C" fn rack_window<'a>(
     if l.refusal != 0 {
         return refuse(answer, l.refusal);
     }
-    let e = calls::nodes::ends_on(&l.words, l.count, bridges, devices, node, k);
+    let e = calls::nodes::ends_on(&l.table, bridges, devices, node, k);
     put_ends(answer, e)
 }

@@ -1,3 +1,4 @@
 -- What the functions' proofs use.
 mod Pasted
+mod Ran
 mod Turns

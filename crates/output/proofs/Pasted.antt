@@ -20,15 +20,21 @@ pub pasted-none : (old : List ℕ) (at : ℕ) (line : Line) → Pasted old at li
 pasted-none old at line = record { inside = omega arith; long = refl; same = paste-zero old at (line .bytes) }
 
 module _ {old new : List ℕ} {at : ℕ} {line : Line} {i : ℕ} where
-  pub pasted-more : Pasted old at line new i → i < line .len → at + line .len ≤ length old → i < length (line .bytes)
-      → Pasted old at line (set new (at + i) (getD (line .bytes) i 0)) (i + 1)
-  pasted-more p h fits known =
-      let more = paste-suc old at (line .bytes) i 0 (omega arith) known in
+  pub pasted-more : Pasted old at line new i → i < line .len → at + line .len ≤ length old → line .len ≤ 96
+      → length (line .bytes) ≡ 96 → Pasted old at line (set new (at + i) (getD (line .bytes) i 0)) (i + 1)
+  pasted-more p h fits small full =
+      let more = paste-suc old at (line .bytes) i 0 (omega arith) (omega arith) in
       record {
         inside = omega arith;
         long = length-set new (at + i) (getD (line .bytes) i 0) ∙ p .long;
         same = rw add-one (ap (λ (l : List ℕ). set l (at + i) (getD (line .bytes) i 0)) (p .same) ∙ more);
       }
+
+  pub pasted-within : Pasted old at line new i → i < line .len → at + line .len ≤ length old → at + i < length new
+  pasted-within p h fits = omega (arith, p .long)
+
+  pub pasted-long : Pasted old at line new i → length new ≡ length old
+  pasted-long p = p .long
 
   pub pasted-all : Pasted old at line new i → line .len ≤ i → new ≡ take at old ++ (textOf line ++ drop (at + line .len) old)
   unfolding textOf

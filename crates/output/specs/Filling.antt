@@ -7,7 +7,6 @@ use lib.Dec.{leb, ltb}
 use lib.ListN.{length, drop}
 use Rattle.rack.specs.Tree.{Tree}
 use Rattle.registers.specs.Image.{Images}
-use Rattle.window.specs.declared.Range.{Range}
 use Rattle.rackfile.specs.Number.{byteIn}
 use Rattle.rackfile.specs.Record.{sizeOf}
 use Rattle.rackfile.specs.Events.{eventIn}
@@ -35,28 +34,28 @@ abbrev pub past : List ℕ → Cursor → Cursor
 past b at = record { offset = at .offset + sizeOf (byteIn b (at .offset)); number = at .number + 1 }
 
 -- the event at a cursor, run
-abbrev pub ranAt : Tree → Range → List ℕ → Cursor → Images → Answered
-ranAt t h b at im = eventRun t h im (eventIn b (at .offset))
+abbrev pub ranAt : Tree → List ℕ → Cursor → Images → Answered
+ranAt t b at im = eventRun t im (eventIn b (at .offset))
 
 -- its line
-abbrev pub lineAt : Tree → Range → List ℕ → Cursor → Images → List ℕ
-lineAt t h b at im = answerLine (at .number) (ranAt t h b at im .answer)
+abbrev pub lineAt : Tree → List ℕ → Cursor → Images → List ℕ
+lineAt t b at im = answerLine (at .number) (ranAt t b at im .answer)
 
 -- the file has ended, or the buffer has no room for the longest line
 abbrev pub ends : List ℕ → ℕ → Cursor → Bool
 ends b room at = leb (length b) (at .offset) || ltb room 96
 
 -- whole lines from a cursor on, at most `left` of them
-unfoldable pub partUpTo : ℕ → Tree → Range → List ℕ → ℕ → Cursor → Images → Part
-partUpTo zero t h b room at im = stop at im
-partUpTo (suc left) t h b room at im =
+unfoldable pub partUpTo : ℕ → Tree → List ℕ → ℕ → Cursor → Images → Part
+partUpTo zero t b room at im = stop at im
+partUpTo (suc left) t b room at im =
     cond (ends b room at) (stop at im)
-    (behind (lineAt t h b at im)
-    (partUpTo left t h b (room - length (lineAt t h b at im)) (past b at) (ranAt t h b at im .after)))
+    (behind (lineAt t b at im)
+    (partUpTo left t b (room - length (lineAt t b at im)) (past b at) (ranAt t b at im .after)))
 
 -- as many whole lines as a buffer of `room` bytes takes
-abbrev pub partOf : Tree → Range → List ℕ → ℕ → Cursor → Images → Part
-partOf t h b room at im = partUpTo (length b) t h b room at im
+abbrev pub partOf : Tree → List ℕ → ℕ → Cursor → Images → Part
+partOf t b room at im = partUpTo (length b) t b room at im
 
 -- a buffer with a text written over its start
 abbrev pub overStart : List ℕ → List ℕ → List ℕ

@@ -8,29 +8,27 @@ use lib.ListN.{length, replicate}
 use Rattle.rack.specs.Tree.{Tree, bridgeCount, deviceCount}
 use Rattle.registers.specs.Image.{Images, images}
 use Rattle.registers.specs.Reset.{resetImages}
-use Rattle.window.specs.declared.Range.{Range}
 use Rattle.rackfile.specs.declared.Event.{Event}
 use Rattle.rackfile.specs.Number.{byteIn}
 use Rattle.rackfile.specs.Record.{sizeOf}
 use Rattle.rackfile.specs.Events.{eventIn}
-use Rattle.rackfile.specs.Load.{fileIn, hostOf}
+use Rattle.rackfile.specs.Load.{fileIn}
 use Rattle.simulator.specs.declared.Answer.{Answer}
-use Rattle.simulator.specs.declared.Answer.the-variants.{Refused, Ended, Checked}
+use Rattle.simulator.specs.declared.Answer.the-variants.{Ended, Checked}
 use Rattle.simulator.specs.Run.{eventRun}
 use Rattle.listing.specs.Line.{endingLine, reportLine, refusedLine}
 use Rattle.output.specs.declared.Cursor.{Cursor}
 
--- the line of an answer; a run refuses no event (`output_laws`, `none-refused`), so there is nothing to print of that
+-- the line of an answer
 abbrev pub answerLine : ℕ → Answer → List ℕ
-answerLine n (Refused refusal) = []
-answerLine n (Ended e) = endingLine n e
+answerLine n (Ended crossings e) = endingLine n crossings e
 answerLine n (Checked r) = reportLine n r
 
 -- the lines of a list of events, numbered from n, each on the images that the one before left
-unfoldable pub linesOf : Tree → Range → ℕ → Images → List Event → List ℕ
-linesOf t h n im [] = []
-linesOf t h n im (e ∷ events) =
-    answerLine n (eventRun t h im e .answer) ++ linesOf t h (n + 1) (eventRun t h im e .after) events
+unfoldable pub linesOf : Tree → ℕ → Images → List Event → List ℕ
+linesOf t n im [] = []
+linesOf t n im (e ∷ events) =
+    answerLine n (eventRun t im e .answer) ++ linesOf t (n + 1) (eventRun t im e .after) events
 
 -- the events of a file from an offset on, at most `left` of them
 unfoldable pub eventsUpTo : ℕ → List ℕ → ℕ → List Event
@@ -54,5 +52,5 @@ firstAt o = record { offset = o; number = 1 }
 unfoldable pub outputOf : List ℕ → List ℕ
 outputOf b =
     cond (eqb (fileIn b .refusal) 0)
-    (linesOf (fileIn b .tree) (hostOf b) 1 (resetImages (fileIn b .tree) (blank (fileIn b .tree))) (eventsAt b (fileIn b .offset)))
+    (linesOf (fileIn b .tree) 1 (resetImages (fileIn b .tree) (blank (fileIn b .tree))) (eventsAt b (fileIn b .offset)))
     (refusedLine (fileIn b .refusal) (fileIn b .offset))

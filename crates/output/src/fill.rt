@@ -5,7 +5,6 @@ ghost use lib.ListN.{length};
 ghost use Rattle.rack.specs.Table.{treeOf};
 ghost use Rattle.rack.specs.Refusal.{rackRefusal};
 ghost use Rattle.registers.specs.Image.{images};
-ghost use Rattle.rackfile.specs.Load.{hostOf};
 ghost use Rattle.output.specs.Filling.{partOf};
 ghost use Rattle.output.specs.Fills.{Fills, Onward};
 use crate::Cursor;
@@ -13,32 +12,30 @@ use crate::Filled;
 use crate::line::put_line;
 use crate::line::run_line;
 use header::register::byte_at;
-use rackfile::record::host_in;
+use rack::table::Table;
 use rackfile::record::size_of;
 
 // The part of the output of an accepted file from a cursor on that the buffer has room for; both images are then those of the next
 // cursor.
 pub fn fill(
     file: &[u8],
-    words: &[u64; 192],
-    count: u8,
+    table: &Table,
     bridges: &mut [u8],
     devices: &mut [u8],
     at: Cursor,
     out: &mut [u8],
 ) -> Filled
-    requires { ⌜ (rackRefusal (treeOf count (now words)) ≡ 0) × (length (now file) ≤ 65536) × (at .number ≤ at .offset + 1) ⌝ }
-    ensures { λ r. ⌜ Fills r (now (out .entry)) (now (out .exit)) (images (now (bridges .exit)) (now (devices .exit))) (partOf (treeOf count (now (words .entry))) (hostOf (now (file .entry))) (now (file .entry)) (length (now (out .entry))) at (images (now (bridges .entry)) (now (devices .entry)))) ⌝ }
+    requires { ⌜ (rackRefusal (treeOf (now table)) ≡ 0) × (length (now file) ≤ 65536) × (at .number ≤ at .offset + 1) ⌝ }
+    ensures { λ r. ⌜ Fills r (now (out .entry)) (now (out .exit)) (images (now (bridges .exit)) (now (devices .exit))) (partOf (treeOf (now (table .entry))) (now (file .entry)) (length (now (out .entry))) at (images (now (bridges .entry)) (now (devices .entry)))) ⌝ }
     ensures { λ r. ⌜ Onward (now (file .entry)) (length (now (out .entry))) at r ⌝ }
 {
-    let host = host_in(file, 0);
     let mut next = at;
     let mut len: usize = 0;
     loop {
         if (file.len() <= next.offset) | (out.len() - len < 96) {
             return Filled { len, next };
         }
-        let line = run_line(file, words, count, bridges, devices, host, next);
+        let line = run_line(file, table, bridges, devices, next);
         put_line(out, len, line);
         len += line.len;
         next = Cursor {

@@ -13,20 +13,16 @@ use crate::Cursor;
 use listing::Line;
 use listing::ending::ending_line;
 use listing::report::report_line;
+use rack::table::Table;
 use rackfile::events::event_in;
 use simulator::Answer;
 use simulator::run::answer_event;
-use window::Range;
 
 fn answer_line(n: u32, a: Answer) -> Line
     ensures { λ r. ⌜ (textOf r ≡ answerLine n a) × (r .len ≤ 96) ⌝ }
 {
     match a {
-        Answer::Refused(refusal) => Line {
-            bytes: [0u8; 96],
-            len: 0,
-        },
-        Answer::Ended(e) => ending_line(n, e),
+        Answer::Ended { crossings, ending } => ending_line(n, crossings, ending),
         Answer::Checked(r) => report_line(n, r),
     }
 }
@@ -34,18 +30,16 @@ fn answer_line(n: u32, a: Answer) -> Line
 // The event at a cursor is run; its line.
 pub(crate) fn run_line(
     file: &[u8],
-    words: &[u64; 192],
-    count: u8,
+    table: &Table,
     bridges: &mut [u8],
     devices: &mut [u8],
-    host: Range,
     at: Cursor,
 ) -> Line
-    requires { ⌜ (rackRefusal (treeOf count (now words)) ≡ 0) × (at .offset ≤ 65536) ⌝ }
-    ensures { λ r. ⌜ (textOf r ≡ lineAt (treeOf count (now (words .entry))) host (now (file .entry)) at (images (now (bridges .entry)) (now (devices .entry)))) × (r .len ≤ 96) × (images (now (bridges .exit)) (now (devices .exit)) ≡ ranAt (treeOf count (now (words .entry))) host (now (file .entry)) at (images (now (bridges .entry)) (now (devices .entry))) .after) ⌝ }
+    requires { ⌜ (rackRefusal (treeOf (now table)) ≡ 0) × (at .offset ≤ 65536) ⌝ }
+    ensures { λ r. ⌜ (textOf r ≡ lineAt (treeOf (now (table .entry))) (now (file .entry)) at (images (now (bridges .entry)) (now (devices .entry)))) × (r .len ≤ 96) × (images (now (bridges .exit)) (now (devices .exit)) ≡ ranAt (treeOf (now (table .entry))) (now (file .entry)) at (images (now (bridges .entry)) (now (devices .entry))) .after) ⌝ }
 {
     let e = event_in(file, at.offset);
-    let a = answer_event(words, count, bridges, devices, host, e);
+    let a = answer_event(table, bridges, devices, e);
     answer_line(at.number, a)
 }
 

@@ -5,17 +5,12 @@ ghost use Rattle.registers.specs.Image.{images};
 ghost use Rattle.registers.specs.Reset.{resetImages};
 ghost use Rattle.output.specs.Output.{firstAt};
 use crate::Cursor;
+use rack::table::Table;
 
 // Both images at reset, and the first event, whose number is 1.
-pub fn start(
-    words: &[u64; 192],
-    count: u8,
-    bridges: &mut [u8],
-    devices: &mut [u8],
-    offset: usize,
-) -> Cursor
-    ensures { λ r. ⌜ (r ≡ firstAt offset) × (images (now (bridges .exit)) (now (devices .exit)) ≡ resetImages (treeOf count (now (words .entry))) (images (now (bridges .entry)) (now (devices .entry)))) ⌝ }
+pub fn start(table: &Table, bridges: &mut [u8], devices: &mut [u8], offset: usize) -> Cursor
+    ensures { λ r. ⌜ (r ≡ firstAt offset) × (images (now (bridges .exit)) (now (devices .exit)) ≡ resetImages (treeOf (now (table .entry))) (images (now (bridges .entry)) (now (devices .entry)))) ⌝ }
 {
-    registers::reset::reset_images(words, count, bridges, devices);
+    registers::reset::reset_images(table, bridges, devices);
     Cursor { offset, number: 1 }
 }

@@ -7,14 +7,13 @@ use lib.Dec.{leb}
 use lib.ListN.{length}
 use Rattle.rack.specs.Tree.{Tree}
 use Rattle.registers.specs.Image.{Images}
-use Rattle.window.specs.declared.Range.{Range}
 use Rattle.output.specs.declared.Cursor.{Cursor}
 use Rattle.output.specs.Filling.{partOf}
 
 -- at most k calls, each into `room` bytes and from the cursor and the images that the one before left, until the file's end: their texts
 -- one after another
-unfoldable pub callsUpTo : ℕ → Tree → Range → List ℕ → ℕ → Cursor → Images → List ℕ
-callsUpTo zero t h b room at im = []
-callsUpTo (suc k) t h b room at im =
+unfoldable pub callsUpTo : ℕ → Tree → List ℕ → ℕ → Cursor → Images → List ℕ
+callsUpTo zero t b room at im = []
+callsUpTo (suc k) t b room at im =
     cond (leb (length b) (at .offset)) []
-    (partOf t h b room at im .text ++ callsUpTo k t h b room (partOf t h b room at im .next) (partOf t h b room at im .after))
+    (partOf t b room at im .text ++ callsUpTo k t b room (partOf t b room at im .next) (partOf t b room at im .after))

@@ -1,4 +1,3 @@
-pub mod Answers
 pub mod Events
 pub mod Parts
 pub mod Calls

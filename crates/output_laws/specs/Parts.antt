@@ -7,7 +7,6 @@ use lib.ListN.{length}
 use Rattle.rack.specs.Bools.{tested}
 use Rattle.rack.specs.Tree.{Tree}
 use Rattle.registers.specs.Image.{Images}
-use Rattle.window.specs.declared.Range.{Range}
 use Rattle.rackfile.specs.declared.Event.{Event}
 use Rattle.output.specs.declared.Cursor.{Cursor}
 use Rattle.output.specs.Output.{linesOf, eventsAt}
@@ -15,10 +14,10 @@ use Rattle.output.specs.Filling.{Part, past, ranAt, lineAt, ends, partUpTo, par
 use Rattle.output.specs.FillingLaws.{on, part-stop, part-step}
 use Rattle.output_laws.specs.Events.{events-past, events-first}
 
-module _ (t : Tree) (h : Range) (b : List ℕ) where
+module _ (t : Tree) (b : List ℕ) where
   -- the lines from a cursor on
   abbrev pub linesAt : Cursor → Images → List ℕ
-  linesAt at im = linesOf t h (at .number) im (eventsAt b (at .offset))
+  linesAt at im = linesOf t (at .number) im (eventsAt b (at .offset))
 
   -- a part and the lines behind it
   abbrev completed : Part → List ℕ
@@ -26,28 +25,28 @@ module _ (t : Tree) (h : Range) (b : List ℕ) where
 
   -- the line of the event at a cursor, and the lines behind it
   lines-first : (at : Cursor) (im : Images) → at .offset < length b
-      → linesAt at im ≡ lineAt t h b at im ++ linesAt (past b at) (ranAt t h b at im .after)
+      → linesAt at im ≡ lineAt t b at im ++ linesAt (past b at) (ranAt t b at im .after)
   unfolding linesOf
-  lines-first at im i = ap (λ (l : List Event). linesOf t h (at .number) im l) (events-first b (at .offset) i)
+  lines-first at im i = ap (λ (l : List Event). linesOf t (at .number) im l) (events-first b (at .offset) i)
 
   -- none past the file's end
   pub lines-past : (at : Cursor) (im : Images) → length b ≤ at .offset → linesAt at im ≡ []
   unfolding linesOf
-  lines-past at im i = ap (λ (l : List Event). linesOf t h (at .number) im l) (events-past b (length b) (at .offset) i)
+  lines-past at im i = ap (λ (l : List Event). linesOf t (at .number) im l) (events-past b (length b) (at .offset) i)
 
-  part-completed : (left room : ℕ) (at : Cursor) (im : Images) → linesAt at im ≡ completed (partUpTo left t h b room at im)
+  part-completed : (left room : ℕ) (at : Cursor) (im : Images) → linesAt at im ≡ completed (partUpTo left t b room at im)
   unfolding partUpTo
   part-completed zero room at im = refl
   part-completed (suc left) room at im =
-      tested (ends b room at) (λ e. ap completed (sym (part-stop t h b (suc left) room at im e)))
+      tested (ends b room at) (λ e. ap completed (sym (part-stop t b (suc left) room at im e)))
       (λ e.
-      let line = lineAt t h b at im in
-      let rest = partUpTo left t h b (room - length line) (past b at) (ranAt t h b at im .after) in
+      let line = lineAt t b at im in
+      let rest = partUpTo left t b (room - length line) (past b at) (ranAt t b at im .after) in
       lines-first at im (on b room at e .0)
-      ∙ ap (λ (l : List ℕ). line ++ l) (part-completed left (room - length line) (past b at) (ranAt t h b at im .after))
+      ∙ ap (λ (l : List ℕ). line ++ l) (part-completed left (room - length line) (past b at) (ranAt t b at im .after))
       ∙ sym (append-assoc line (rest .text) (linesAt (rest .next) (rest .after)))
-      ∙ ap completed (sym (part-step t h b left room at im e)))
+      ∙ ap completed (sym (part-step t b left room at im e)))
 
   pub part-lines : (room : ℕ) (at : Cursor) (im : Images)
-      → linesAt at im ≡ partOf t h b room at im .text ++ linesAt (partOf t h b room at im .next) (partOf t h b room at im .after)
+      → linesAt at im ≡ partOf t b room at im .text ++ linesAt (partOf t b room at im .next) (partOf t b room at im .after)
   part-lines room at im = part-completed (length b) room at im

@@ -11,8 +11,7 @@ use Rattle.rack.specs.Bools.{tested}
 use Rattle.rack.specs.Tree.{Tree}
 use Rattle.registers.specs.Image.{Images}
 use Rattle.registers.specs.Reset.{resetImages}
-use Rattle.window.specs.declared.Range.{Range}
-use Rattle.rackfile.specs.Load.{fileIn, hostOf}
+use Rattle.rackfile.specs.Load.{fileIn}
 use Rattle.listing.specs.Line.{refusedLine}
 use Rattle.output.specs.declared.Cursor.{Cursor}
 use Rattle.output.specs.Output.{blank, firstAt, outputOf}
@@ -21,21 +20,21 @@ use Rattle.output.specs.FillingLaws.{progress}
 use Rattle.output_laws.specs.Parts.{linesAt, lines-past, part-lines}
 use Rattle.output_laws.specs.Calls.{callsUpTo}
 
-module _ (t : Tree) (h : Range) (b : List ℕ) where
+module _ (t : Tree) (b : List ℕ) where
   -- from any cursor and images on, with as many calls as there are bytes left
   pub calls-lines : (k room : ℕ) (at : Cursor) (im : Images) → 96 ≤ room → length b ≤ at .offset + k
-      → callsUpTo k t h b room at im ≡ linesAt t h b at im
+      → callsUpTo k t b room at im ≡ linesAt t b at im
   unfolding callsUpTo
-  calls-lines zero room at im r n = sym (lines-past t h b at im (omega arith))
+  calls-lines zero room at im r n = sym (lines-past t b at im (omega arith))
   calls-lines (suc k) room at im r n =
-      tested (leb (length b) (at .offset)) (λ q. rw q (sym (lines-past t h b at im (leb-true (length b) (at .offset) q))))
+      tested (leb (length b) (at .offset)) (λ q. rw q (sym (lines-past t b at im (leb-true (length b) (at .offset) q))))
       (λ q.
-      let p = partOf t h b room at im in
+      let p = partOf t b room at im in
       let i : at .offset < length b = leb-false (length b) (at .offset) q in
-      let on : at .offset < p .next .offset = progress t h b room at im r i in
+      let on : at .offset < p .next .offset = progress t b room at im r i in
       rw q
       (ap (λ (l : List ℕ). p .text ++ l) (calls-lines k room (p .next) (p .after) r (omega arith))
-      ∙ sym (part-lines t h b room at im)))
+      ∙ sym (part-lines t b room at im)))
 
 module _ (b : List ℕ) where
   -- where a run begins: at the first event, with number 1, and from reset
@@ -50,11 +49,11 @@ module _ (b : List ℕ) where
   unfolding outputOf
   output-refused z = rw (ne-eqb (fileIn b .refusal) 0 z)
 
-  pub output-accepted : fileIn b .refusal ≡ 0 → outputOf b ≡ linesAt (fileIn b .tree) (hostOf b) b firstOf resetOf
+  pub output-accepted : fileIn b .refusal ≡ 0 → outputOf b ≡ linesAt (fileIn b .tree) b firstOf resetOf
   unfolding outputOf
   output-accepted z = rw (eq-eqb (fileIn b .refusal) 0 z)
 
   pub whole : (room : ℕ) → fileIn b .refusal ≡ 0 → 96 ≤ room
-      → callsUpTo (length b) (fileIn b .tree) (hostOf b) b room firstOf resetOf ≡ outputOf b
+      → callsUpTo (length b) (fileIn b .tree) b room firstOf resetOf ≡ outputOf b
   whole room z r =
-      calls-lines (fileIn b .tree) (hostOf b) b (length b) room firstOf resetOf r (omega arith) ∙ sym (output-accepted z)
+      calls-lines (fileIn b .tree) b (length b) room firstOf resetOf r (omega arith) ∙ sym (output-accepted z)

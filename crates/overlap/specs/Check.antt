@@ -5,7 +5,6 @@ use mathlib.Core.Bool.{Bool, true, false}
 use mathlib.Core.List.{List, [], _∷_}
 use Rattle.rack.specs.Tree.{Tree, agents, buses}
 use Rattle.registers.specs.Image.{Images}
-use Rattle.window.specs.declared.Range.{Range}
 use Rattle.claims.specs.declared.Space.{Space}
 use Rattle.claims.specs.declared.Space.the-variants.{Memory, Io, Configuration}
 use Rattle.claims.specs.declared.Claimants.{Claimants}
@@ -41,8 +40,8 @@ shown bus space a driver (One x) = Pass
 shown bus space a driver (Two x y) = Fault bus space a driver x y
 
 -- one driver of a bus at one address or bus number
-abbrev pub driven : Tree → Range → Images → ℕ → Space → ℕ → ℕ → Report
-driven t h im bus space a driver = shown bus space a driver (firstTwo (claimants t h im space bus driver a))
+abbrev pub driven : Tree → Images → ℕ → Space → ℕ → ℕ → Report
+driven t im bus space a driver = shown bus space a driver (firstTwo (claimants t im space bus driver a))
 
 -- 01: 'configuration (driver the holder ..)', and 'Every agent counts as a driver, whatever its command bits'
 abbrev pub driversOf : Tree → ℕ → Space → List ℕ
@@ -51,8 +50,8 @@ driversOf t bus Io = agents t bus
 driversOf t bus Configuration = bus ∷ []
 
 -- 01: 'the first driver'
-unfoldable pub atValue : Tree → Range → Images → ℕ → Space → ℕ → Report
-atValue t h im bus space a = firstIn (driven t h im bus space a) (driversOf t bus space)
+unfoldable pub atValue : Tree → Images → ℕ → Space → ℕ → Report
+atValue t im bus space a = firstIn (driven t im bus space a) (driversOf t bus space)
 
 -- 01: 'bus numbers 1 to 255', and every address
 abbrev pub firstOf : Space → ℕ
@@ -61,13 +60,13 @@ firstOf Io = 0
 firstOf Configuration = 1
 
 -- 01: 'the lowest address or bus number'
-abbrev pub inSpace : Tree → Range → Images → ℕ → Space → Report
-inSpace t h im bus space = firstFrom (atValue t h im bus space) (lastOf space + 1 - firstOf space) (firstOf space)
+abbrev pub inSpace : Tree → Images → ℕ → Space → Report
+inSpace t im bus space = firstFrom (atValue t im bus space) (lastOf space + 1 - firstOf space) (firstOf space)
 
 -- 01: 'in each, configuration .., memory, I/O'
-unfoldable pub onBus : Tree → Range → Images → ℕ → Report
-onBus t h im bus = firstIn (inSpace t h im bus) (Configuration ∷ Memory ∷ Io ∷ [])
+unfoldable pub onBus : Tree → Images → ℕ → Report
+onBus t im bus = firstIn (inSpace t im bus) (Configuration ∷ Memory ∷ Io ∷ [])
 
 -- 01: 'Buses in order (root, then bridges by number)'; 'It passes, or shows the first bus and kind with a clash'
-unfoldable pub check : Tree → Range → Images → Report
-check t h im = firstIn (onBus t h im) (buses t)
+unfoldable pub check : Tree → Images → Report
+check t im = firstIn (onBus t im) (buses t)

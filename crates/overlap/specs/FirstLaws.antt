@@ -1,15 +1,16 @@
 -- Laws of the first fault of a list or of a run of numbers.
 -- Assumes nothing.
 use mathlib.Core.Path.{_≡_, refl, sym, ap, _∙_}
+use mathlib.Core.Logic.{_≢_}
 use mathlib.Core.Bool.{Bool, true, false, cond, true≢false, false≢true}
 use mathlib.Core.List.{List, [], _∷_}
 use Prim.Native.Nat.{ℕ, _+_, _-_, _≤_, _<_}
+use native.Mathlib.Omega.{arith}
 use borrow.Author.Tests.{eq-eqb, ne-eqb}
 use Rattle.rack.specs.Bools.{tested}
 use Rattle.rack.specs.CountLaws.{left-suc, left-none}
 use Rattle.rack.specs.Node.{isBridge}
-use Rattle.rack.specs.Tree.{Tree, parentOf, nodesFrom, bridgesFrom}
-use Rattle.rack_laws.specs.Agents.{All}
+use Rattle.rack.specs.Tree.{Tree, parentOf, nodesFrom, nodesOn, bridgesFrom}
 use Rattle.overlap.specs.declared.Report.{Report}
 use Rattle.overlap.specs.declared.Report.the-variants.{Pass, Fault}
 use Rattle.overlap.specs.Check.{isFault, orElse, firstIn, firstFrom}
@@ -66,35 +67,60 @@ pub in-one : {A : Type 0} (f : A → Report) (x : A) → firstIn f (x ∷ []) �
 unfolding firstIn
 in-one f x = else-pass (f x)
 
-module _ (t : Tree) (bus n i : ℕ) where
-  -- of the nodes left, one on the bus is the first of those on it
-  pub on-first : i < n → parentOf t i ≡ bus → nodesFrom t bus i (n - i) ≡ i ∷ nodesFrom t bus (i + 1) (n - (i + 1))
-  unfolding nodesFrom
-  on-first h e = rw (left-suc i n h, eq-eqb (parentOf t i) bus e)
+-- a member that was asked: its fault is the first, and without one the others are asked
+module _ {A : Type 0} (f : A → Report) (x : A) (l : List A) {r : Report} {b : Bool} (er : r ≡ f x) (eb : b ≡ isFault r) where
+  pub in-found : b ≡ true → r ≡ firstIn f (x ∷ l)
+  in-found q = else-found (firstIn f l) (in-step f x l) er eb q
 
-  -- one on another bus is none of them
-  pub off-first : i < n → (parentOf t i ≡ bus → ⊥) → nodesFrom t bus i (n - i) ≡ nodesFrom t bus (i + 1) (n - (i + 1))
-  unfolding nodesFrom
-  off-first h ne = rw (left-suc i n h, ne-eqb (parentOf t i) bus ne)
+  pub in-next : b ≡ false → {s : Report} → s ≡ firstIn f l → s ≡ firstIn f (x ∷ l)
+  in-next q es = es ∙ sym (else-next (firstIn f l) (in-step f x l) er eb q)
+
+module _ (t : Tree) (bus n i : ℕ) where
+  module _ {p : ℕ} (h : i < n) (parent : p ≡ parentOf t i) where
+    -- of the nodes left, one on the bus is the first of those on it
+    pub on-first : p ≡ bus → nodesFrom t bus i (n - i) ≡ i ∷ nodesFrom t bus (i + 1) (n - (i + 1))
+    unfolding nodesFrom
+    on-first e = rw (left-suc i n h, eq-eqb (parentOf t i) bus (sym parent ∙ e))
+
+    -- one on another bus is none of them
+    pub off-first : p ≢ bus → nodesFrom t bus i (n - i) ≡ nodesFrom t bus (i + 1) (n - (i + 1))
+    unfolding nodesFrom
+    off-first ne = rw (left-suc i n h, ne-eqb (parentOf t i) bus (λ e. ne (parent ∙ e)))
 
   -- no node is left
   pub none-left : n ≤ i → nodesFrom t bus i (n - i) ≡ []
   unfolding nodesFrom
   none-left h = rw (left-none i n h)
 
--- the same of the first fault among them
-module _ (t : Tree) (bus : ℕ) (f : ℕ → Report) (n i : ℕ) where
-  pub nodes-on : i < n → parentOf t i ≡ bus
-      → firstIn f (nodesFrom t bus i (n - i)) ≡ orElse (f i) (firstIn f (nodesFrom t bus (i + 1) (n - (i + 1))))
-  nodes-on h e = ap (firstIn f) (on-first t bus n i h e) ∙ in-step f i (nodesFrom t bus (i + 1) (n - (i + 1)))
+-- at first all are left
+pub all-left : (t : Tree) (bus : ℕ) {n : ℕ} → n ≡ t .count → nodesOn t bus ≡ nodesFrom t bus 0 (n - 0)
+all-left t bus {n} at = let e : t .count ≡ n - 0 = omega (arith, at) in ap (nodesFrom t bus 0) e
 
-  pub nodes-off : i < n → (parentOf t i ≡ bus → ⊥)
-      → firstIn f (nodesFrom t bus i (n - i)) ≡ firstIn f (nodesFrom t bus (i + 1) (n - (i + 1)))
-  nodes-off h ne = ap (firstIn f) (off-first t bus n i h ne)
+-- the first fault among the nodes on a bus, those before i having none
+abbrev pub NodesYet : Tree → ℕ → (ℕ → Report) → ℕ → ℕ → Type 0
+NodesYet t bus f n i = firstIn f (nodesOn t bus) ≡ firstIn f (nodesFrom t bus i (n - i))
 
-  pub nodes-end : n ≤ i → firstIn f (nodesFrom t bus i (n - i)) ≡ Pass
+pub nodes-yet : (t : Tree) (bus : ℕ) (f : ℕ → Report) {n : ℕ} → n ≡ t .count → NodesYet t bus f n 0
+nodes-yet t bus f at = ap (firstIn f) (all-left t bus at)
+
+module _ (t : Tree) (bus : ℕ) (f : ℕ → Report) {n i : ℕ} (yet : NodesYet t bus f n i) where
+  pub nodes-end : n ≤ i → Pass ≡ firstIn f (nodesOn t bus)
   unfolding firstIn
-  nodes-end h = ap (firstIn f) (none-left t bus n i h)
+  nodes-end h = sym (yet ∙ ap (firstIn f) (none-left t bus n i h))
+
+  module _ {p : ℕ} (h : i < n) (parent : p ≡ parentOf t i) where
+    pub nodes-off : p ≢ bus → NodesYet t bus f n (i + 1)
+    nodes-off ne = yet ∙ ap (firstIn f) (off-first t bus n i h parent ne)
+
+    module _ {r : Report} {b : Bool} (e : p ≡ bus) (er : r ≡ f i) (eb : b ≡ isFault r) where
+      step : firstIn f (nodesOn t bus) ≡ orElse (f i) (firstIn f (nodesFrom t bus (i + 1) (n - (i + 1))))
+      step = yet ∙ ap (firstIn f) (on-first t bus n i h parent e) ∙ in-step f i (nodesFrom t bus (i + 1) (n - (i + 1)))
+
+      pub nodes-found : b ≡ true → r ≡ firstIn f (nodesOn t bus)
+      nodes-found q = else-found _ step er eb q
+
+      pub nodes-next : b ≡ false → NodesYet t bus f n (i + 1)
+      nodes-next q = else-next _ step er eb q
 
 module _ (t : Tree) (f : ℕ → Report) (n i : ℕ) where
   -- of the nodes left, a bridge comes first, and a device says nothing

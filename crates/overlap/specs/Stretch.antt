@@ -7,7 +7,6 @@ use mathlib.Core.List.{List}
 use lib.ListN.{getD, length}
 use Rattle.rack.specs.Tree.{Tree, agents}
 use Rattle.registers.specs.Image.{Images}
-use Rattle.window.specs.declared.Range.{Range}
 use Rattle.window.specs.Range.{empty}
 use Rattle.claims.specs.declared.Space.{Space}
 use Rattle.claims.specs.declared.Agent.{Agent}
@@ -20,9 +19,9 @@ abbrev pub nobody : Agent
 nobody = Host empty
 
 -- a list that holds the agents of a bus, decoded, in their order
-abbrev pub Gathered : Tree → Range → Images → ℕ → List Agent → Type 0
-Gathered t h im bus gs =
-    (j : ℕ) → j < length (agents t bus) → getD gs j nobody ≡ agentOf t h im bus (getD (agents t bus) j 0)
+abbrev pub Gathered : Tree → Images → ℕ → List Agent → Type 0
+Gathered t im bus gs =
+    (j : ℕ) → j < length (agents t bus) → getD gs j nobody ≡ agentOf t im bus (getD (agents t bus) j 0)
 
 -- an end, at most e, up to which the claims of the k agents from j on stay what they are at a
 unfoldable pub untilAll : List Agent → Space → ℕ → ℕ → ℕ → ℕ → ℕ

@@ -13,7 +13,6 @@ use Rattle.rack.specs.CountLaws.{left-suc, left-none}
 use Rattle.rack.specs.Tree.{Tree, nodesOn, agents}
 use Rattle.rack_laws.specs.Agents.{All}
 use Rattle.registers.specs.Image.{Images}
-use Rattle.window.specs.declared.Range.{Range}
 use Rattle.claims.specs.declared.Space.{Space}
 use Rattle.claims.specs.declared.Space.the-variants.{Memory, Io, Configuration}
 use Rattle.claims.specs.declared.Agent.{Agent}
@@ -49,14 +48,14 @@ every P [] h = tt
 every P (x ∷ l) h = (h x, every P l h)
 
 -- one claimant or none for each driver: no fault at this value
-pub few-value : (t : Tree) (h : Range) (im : Images) (bus : ℕ) (space : Space) (a : ℕ)
-    → All (λ d. length (claimants t h im space bus d a) ≤ 1) (driversOf t bus space) → atValue t h im bus space a ≡ Pass
+pub few-value : (t : Tree) (im : Images) (bus : ℕ) (space : Space) (a : ℕ)
+    → All (λ d. length (claimants t im space bus d a) ≤ 1) (driversOf t bus space) → atValue t im bus space a ≡ Pass
 unfolding atValue firstIn All
-few-value t h im bus space a few = passes (driversOf t bus space) few
+few-value t im bus space a few = passes (driversOf t bus space) few
   where
-    passes : (l : List ℕ) → All (λ d. length (claimants t h im space bus d a) ≤ 1) l → firstIn (driven t h im bus space a) l ≡ Pass
+    passes : (l : List ℕ) → All (λ d. length (claimants t im space bus d a) ≤ 1) l → firstIn (driven t im bus space a) l ≡ Pass
     passes [] k = refl
-    passes (d ∷ l) k = rw (fewer-shown bus space a d (claimants t h im space bus d a) (k .0)) (passes l (k .1))
+    passes (d ∷ l) k = rw (fewer-shown bus space a d (claimants t im space bus d a) (k .0)) (passes l (k .1))
 
 -- an agent does not claim what it drives
 own-none : (claim : ℕ → Bool) (d : ℕ) (l : List ℕ) → claimantsIn claim d (d ∷ l) ≡ claimantsIn claim d l
@@ -82,22 +81,22 @@ two-drive claim bus (x ∷ []) h = (
 )
 two-drive claim bus (x ∷ (y ∷ l)) h = absurd (omega arith)
 
-module _ (t : Tree) (h : Range) (im : Images) (bus : ℕ) (few : length (agents t bus) ≤ 2) where
+module _ (t : Tree) (im : Images) (bus : ℕ) (few : length (agents t bus) ≤ 2) where
   -- at each value
-  two-value : (space : Space) (a : ℕ) → atValue t h im bus space a ≡ Pass
+  two-value : (space : Space) (a : ℕ) → atValue t im bus space a ≡ Pass
   unfolding All
-  two-value Memory a = few-value t h im bus Memory a (two-drive (λ g. claims t h im Memory bus g a) bus (nodesOn t bus) (omega arith))
-  two-value Io a = few-value t h im bus Io a (two-drive (λ g. claims t h im Io bus g a) bus (nodesOn t bus) (omega arith))
+  two-value Memory a = few-value t im bus Memory a (two-drive (λ g. claims t im Memory bus g a) bus (nodesOn t bus) (omega arith))
+  two-value Io a = few-value t im bus Io a (two-drive (λ g. claims t im Io bus g a) bus (nodesOn t bus) (omega arith))
   two-value Configuration a =
-      few-value t h im bus Configuration a
-      (two-drive (λ g. claims t h im Configuration bus g a) bus (nodesOn t bus) (omega arith) .0, tt)
+      few-value t im bus Configuration a
+      (two-drive (λ g. claims t im Configuration bus g a) bus (nodesOn t bus) (omega arith) .0, tt)
 
   -- in each space
-  two-space : (space : Space) → inSpace t h im bus space ≡ Pass
-  two-space space = from-all (atValue t h im bus space) (two-value space) (lastOf space + 1 - firstOf space) (firstOf space)
+  two-space : (space : Space) → inSpace t im bus space ≡ Pass
+  two-space space = from-all (atValue t im bus space) (two-value space) (lastOf space + 1 - firstOf space) (firstOf space)
 
   -- 01: 'An agent never claims what it drives': two agents of a bus cannot clash
-  pub two-agents : onBus t h im bus ≡ Pass
+  pub two-agents : onBus t im bus ≡ Pass
   unfolding onBus firstIn
   two-agents = rw (two-space Configuration, two-space Memory, two-space Io)
 
@@ -194,38 +193,38 @@ claimants-le gs space a c driver (g ∷ l) j h =
     (tested (c g) (λ q. tested (eqb g driver) (λ p. rw (q, p) (omega arith)) (λ p. rw (q, p) (omega arith)))
     (λ q. rw q (omega arith)))
 
-module _ (t : Tree) (h : Range) (im : Images) (bus : ℕ) (gs : List Agent) (is : Gathered t h im bus gs) (n : ℕ)
+module _ (t : Tree) (im : Images) (bus : ℕ) (gs : List Agent) (is : Gathered t im bus gs) (n : ℕ)
     (all : n ≡ length (agents t bus)) (space : Space) (a : ℕ) where
   -- where no claim differs, no fault is no fault
   pub passes-on : (x : ℕ) → ((j : ℕ) → j < n → claimsOf (getD gs j nobody) space x ≡ claimsOf (getD gs j nobody) space a)
-      → atValue t h im bus space a ≡ Pass → atValue t h im bus space x ≡ Pass
+      → atValue t im bus space a ≡ Pass → atValue t im bus space x ≡ Pass
   unfolding atValue
   passes-on x same e =
-      in-moves (driven t h im bus space a) (driven t h im bus space x) (driversOf t bus space)
+      in-moves (driven t im bus space a) (driven t im bus space x) (driversOf t bus space)
       (λ d p.
-      rw (claimants-ext (λ g. claims t h im space bus g x) (λ g. claims t h im space bus g a) d (agents t bus)
+      rw (claimants-ext (λ g. claims t im space bus g x) (λ g. claims t im space bus g a) d (agents t bus)
       (λ j k. rw (← is j k) (same j (omega arith))))
-      (shown-moves bus space a x d (firstTwo (claimants t h im space bus d a)) p))
+      (shown-moves bus space a x d (firstTwo (claimants t im space bus d a)) p))
       e
 
   -- past all up to which every claim stays the same
-  pub leap : (last : ℕ) → a ≤ last → atValue t h im bus space a ≡ Pass
-      → firstFrom (atValue t h im bus space) (last + 1 - a) a
-      ≡ firstFrom (atValue t h im bus space) (last + 1 - (untilAll gs space a n 0 last + 1)) (untilAll gs space a n 0 last + 1)
+  pub leap : (last : ℕ) → a ≤ last → atValue t im bus space a ≡ Pass
+      → firstFrom (atValue t im bus space) (last + 1 - a) a
+      ≡ firstFrom (atValue t im bus space) (last + 1 - (untilAll gs space a n 0 last + 1)) (untilAll gs space a n 0 last + 1)
   leap last l e =
       let k = all-kept gs space a n 0 last in
       let low : a ≤ untilAll gs space a n 0 last = k .low l in
-      skip (atValue t h im bus space) (last + 1) a (untilAll gs space a n 0 last + 1 - a)
+      skip (atValue t im bus space) (last + 1) a (untilAll gs space a n 0 last + 1 - a)
       (λ x p q. passes-on x (λ j m. k .same j x (omega arith) (omega arith) p (omega arith)) e)
       (omega (arith, k .high))
-      ∙ ap (λ (u : ℕ). firstFrom (atValue t h im bus space) (last + 1 - u) u) (omega arith)
+      ∙ ap (λ (u : ℕ). firstFrom (atValue t im bus space) (last + 1 - u) u) (omega arith)
 
   -- where one agent or none claims there is no fault
-  pub few-claim : claiming gs space a n 0 ≤ 1 → atValue t h im bus space a ≡ Pass
+  pub few-claim : claiming gs space a n 0 ≤ 1 → atValue t im bus space a ≡ Pass
   few-claim few =
-      few-value t h im bus space a
-      (every (λ d. length (claimants t h im space bus d a) ≤ 1) (driversOf t bus space)
+      few-value t im bus space a
+      (every (λ d. length (claimants t im space bus d a) ≤ 1) (driversOf t bus space)
       (λ d.
-      let le = claimants-le gs space a (λ g. claims t h im space bus g a) d (agents t bus) 0
+      let le = claimants-le gs space a (λ g. claims t im space bus g a) d (agents t bus) 0
       (λ i k p q. let e : k ≡ i = omega arith in rw e (ap (λ (g : Agent). claimsOf g space a) (is i p))) in
       omega (arith, ap (λ (k : ℕ). claiming gs space a k 0) all)))

@@ -12,7 +12,6 @@ use lib.ListN.{getD, length}
 use borrow.Author.Tests.{leb-true, leb-false}
 use Rattle.rack.specs.Tree.{Tree, agents, buses}
 use Rattle.registers.specs.Image.{Images}
-use Rattle.window.specs.declared.Range.{Range}
 use Rattle.claims.specs.declared.Space.{Space}
 use Rattle.claims.specs.declared.Space.the-variants.{Memory, Io, Configuration}
 use Rattle.claims.specs.declared.Agent.{Agent}
@@ -26,28 +25,28 @@ use Rattle.overlap.specs.FirstLaws.{from-step, from-end}
 use Rattle.overlap.specs.StretchLaws.{leap}
 
 -- agents of a bus, decoded
-unfoldable pub decoded : Tree → Range → Images → ℕ → List ℕ → List Agent
-decoded t h im bus [] = []
-decoded t h im bus (g ∷ gs) = agentOf t h im bus g ∷ decoded t h im bus gs
+unfoldable pub decoded : Tree → Images → ℕ → List ℕ → List Agent
+decoded t im bus [] = []
+decoded t im bus (g ∷ gs) = agentOf t im bus g ∷ decoded t im bus gs
 
 -- all of them
-abbrev pub gathered : Tree → Range → Images → ℕ → List Agent
-gathered t h im bus = decoded t h im bus (agents t bus)
+abbrev pub gathered : Tree → Images → ℕ → List Agent
+gathered t im bus = decoded t im bus (agents t bus)
 
-decoded-at : (t : Tree) (h : Range) (im : Images) (bus : ℕ) (l : List ℕ) (j : ℕ) → j < length l
-    → getD (decoded t h im bus l) j nobody ≡ agentOf t h im bus (getD l j 0)
+decoded-at : (t : Tree) (im : Images) (bus : ℕ) (l : List ℕ) (j : ℕ) → j < length l
+    → getD (decoded t im bus l) j nobody ≡ agentOf t im bus (getD l j 0)
 unfolding decoded
-decoded-at t h im bus [] j k = absurd (omega arith)
-decoded-at t h im bus (g ∷ l) zero k = refl
-decoded-at t h im bus (g ∷ l) (suc j) k = decoded-at t h im bus l j (omega arith)
+decoded-at t im bus [] j k = absurd (omega arith)
+decoded-at t im bus (g ∷ l) zero k = refl
+decoded-at t im bus (g ∷ l) (suc j) k = decoded-at t im bus l j (omega arith)
 
 -- that is what `Gathered` says
-pub gathered-is : (t : Tree) (h : Range) (im : Images) (bus : ℕ) → Gathered t h im bus (gathered t h im bus)
-gathered-is t h im bus = decoded-at t h im bus (agents t bus)
+pub gathered-is : (t : Tree) (im : Images) (bus : ℕ) → Gathered t im bus (gathered t im bus)
+gathered-is t im bus = decoded-at t im bus (agents t bus)
 
 -- up to where no claim of a bus changes
-abbrev pub stretchEnd : Tree → Range → Images → ℕ → Space → ℕ → ℕ
-stretchEnd t h im bus space a = untilAll (gathered t h im bus) space a (length (agents t bus)) 0 (lastOf space)
+abbrev pub stretchEnd : Tree → Images → ℕ → Space → ℕ → ℕ
+stretchEnd t im bus space a = untilAll (gathered t im bus) space a (length (agents t bus)) 0 (lastOf space)
 
 -- a fault, or a pass at the last stretch, or what comes after
 abbrev pub goOn : Report → Bool → Option Report → Option Report
@@ -56,11 +55,11 @@ goOn Pass true o = some Pass
 goOn Pass false o = o
 
 -- at most k stretches from a on; none where they are not enough
-unfoldable pub sweepBy : ℕ → Tree → Range → Images → ℕ → Space → ℕ → Option Report
-sweepBy zero t h im bus space a = none
-sweepBy (suc k) t h im bus space a =
-    goOn (atValue t h im bus space a) (leb (lastOf space) (stretchEnd t h im bus space a))
-    (sweepBy k t h im bus space (stretchEnd t h im bus space a + 1))
+unfoldable pub sweepBy : ℕ → Tree → Images → ℕ → Space → ℕ → Option Report
+sweepBy zero t im bus space a = none
+sweepBy (suc k) t im bus space a =
+    goOn (atValue t im bus space a) (leb (lastOf space) (stretchEnd t im bus space a))
+    (sweepBy k t im bus space (stretchEnd t im bus space a + 1))
 
 -- a fault, or what comes after, as far as it is known
 abbrev pub orElseBy : Option Report → Option Report → Option Report
@@ -74,38 +73,38 @@ firstBy f [] = some Pass
 firstBy f (x ∷ xs) = orElseBy (f x) (firstBy f xs)
 
 -- the check with k stretches for each space of each bus
-unfoldable pub onBusBy : ℕ → Tree → Range → Images → ℕ → Option Report
-onBusBy k t h im bus = firstBy (λ space. sweepBy k t h im bus space (firstOf space)) (Configuration ∷ Memory ∷ Io ∷ [])
+unfoldable pub onBusBy : ℕ → Tree → Images → ℕ → Option Report
+onBusBy k t im bus = firstBy (λ space. sweepBy k t im bus space (firstOf space)) (Configuration ∷ Memory ∷ Io ∷ [])
 
-unfoldable pub checkBy : ℕ → Tree → Range → Images → Option Report
-checkBy k t h im = firstBy (onBusBy k t h im) (buses t)
+unfoldable pub checkBy : ℕ → Tree → Images → Option Report
+checkBy k t im = firstBy (onBusBy k t im) (buses t)
 
-module _ (t : Tree) (h : Range) (im : Images) (bus : ℕ) (space : Space) where
+module _ (t : Tree) (im : Images) (bus : ℕ) (space : Space) where
   -- one stretch
-  swept-on : (a : ℕ) (f r : Report) (last : Bool) (o : Option Report) → a ≤ lastOf space → atValue t h im bus space a ≡ f
-      → leb (lastOf space) (stretchEnd t h im bus space a) ≡ last
-      → (stretchEnd t h im bus space a + 1 ≤ lastOf space → o ≡ some r
-      → firstFrom (atValue t h im bus space) (lastOf space + 1 - (stretchEnd t h im bus space a + 1)) (stretchEnd t h im bus space a + 1) ≡ r)
-      → goOn f last o ≡ some r → firstFrom (atValue t h im bus space) (lastOf space + 1 - a) a ≡ r
-  swept-on a (Fault b s v d x y) r last o l w q g e = from-step (atValue t h im bus space) (lastOf space + 1) a (omega arith) ∙ rw w (cc)
+  swept-on : (a : ℕ) (f r : Report) (last : Bool) (o : Option Report) → a ≤ lastOf space → atValue t im bus space a ≡ f
+      → leb (lastOf space) (stretchEnd t im bus space a) ≡ last
+      → (stretchEnd t im bus space a + 1 ≤ lastOf space → o ≡ some r
+      → firstFrom (atValue t im bus space) (lastOf space + 1 - (stretchEnd t im bus space a + 1)) (stretchEnd t im bus space a + 1) ≡ r)
+      → goOn f last o ≡ some r → firstFrom (atValue t im bus space) (lastOf space + 1 - a) a ≡ r
+  swept-on a (Fault b s v d x y) r last o l w q g e = from-step (atValue t im bus space) (lastOf space + 1) a (omega arith) ∙ rw w (cc)
   swept-on a Pass r true o l w q g e =
-      leap t h im bus (gathered t h im bus) (gathered-is t h im bus) (length (agents t bus)) refl space a (lastOf space) l w
-      ∙ from-end (atValue t h im bus space) (lastOf space + 1) (stretchEnd t h im bus space a + 1)
-      (omega (arith, leb-true (lastOf space) (stretchEnd t h im bus space a) q))
+      leap t im bus (gathered t im bus) (gathered-is t im bus) (length (agents t bus)) refl space a (lastOf space) l w
+      ∙ from-end (atValue t im bus space) (lastOf space + 1) (stretchEnd t im bus space a + 1)
+      (omega (arith, leb-true (lastOf space) (stretchEnd t im bus space a) q))
       ∙ cc
   swept-on a Pass r false o l w q g e =
-      leap t h im bus (gathered t h im bus) (gathered-is t h im bus) (length (agents t bus)) refl space a (lastOf space) l w
-      ∙ g (omega (arith, leb-false (lastOf space) (stretchEnd t h im bus space a) q)) e
+      leap t im bus (gathered t im bus) (gathered-is t im bus) (length (agents t bus)) refl space a (lastOf space) l w
+      ∙ g (omega (arith, leb-false (lastOf space) (stretchEnd t im bus space a) q)) e
 
   -- k stretches were enough: what they found is what the search of every value finds
-  pub swept-from : (k a : ℕ) (r : Report) → a ≤ lastOf space → sweepBy k t h im bus space a ≡ some r
-      → firstFrom (atValue t h im bus space) (lastOf space + 1 - a) a ≡ r
+  pub swept-from : (k a : ℕ) (r : Report) → a ≤ lastOf space → sweepBy k t im bus space a ≡ some r
+      → firstFrom (atValue t im bus space) (lastOf space + 1 - a) a ≡ r
   unfolding sweepBy
   swept-from zero a r l e = let z : _≡_ {A = ℕ} 0 1 = cc in absurd (omega arith)
   swept-from (suc k) a r l e =
-      swept-on a (atValue t h im bus space a) r (leb (lastOf space) (stretchEnd t h im bus space a))
-      (sweepBy k t h im bus space (stretchEnd t h im bus space a + 1)) l refl refl
-      (swept-from k (stretchEnd t h im bus space a + 1) r) e
+      swept-on a (atValue t im bus space a) r (leb (lastOf space) (stretchEnd t im bus space a))
+      (sweepBy k t im bus space (stretchEnd t im bus space a + 1)) l refl refl
+      (swept-from k (stretchEnd t im bus space a + 1) r) e
 
 first-le : (space : Space) → firstOf space ≤ lastOf space
 first-le Memory = omega arith
@@ -113,9 +112,9 @@ first-le Io = omega arith
 first-le Configuration = omega arith
 
 -- the same of a whole space
-pub swept : (t : Tree) (h : Range) (im : Images) (bus : ℕ) (space : Space) (k : ℕ) (r : Report)
-    → sweepBy k t h im bus space (firstOf space) ≡ some r → inSpace t h im bus space ≡ r
-swept t h im bus space k r e = swept-from t h im bus space k (firstOf space) r (first-le space) e
+pub swept : (t : Tree) (im : Images) (bus : ℕ) (space : Space) (k : ℕ) (r : Report)
+    → sweepBy k t im bus space (firstOf space) ≡ some r → inSpace t im bus space ≡ r
+swept t im bus space k r e = swept-from t im bus space k (firstOf space) r (first-le space) e
 
 else-by : (p q : Option Report) (x y r : Report) → ((s : Report) → p ≡ some s → x ≡ s) → ((s : Report) → q ≡ some s → y ≡ s)
     → orElseBy p q ≡ some r → orElse x y ≡ r
@@ -131,11 +130,11 @@ first-by f g each [] r e = cc
 first-by f g each (x ∷ l) r e = else-by (g x) (firstBy g l) (f x) (firstIn f l) r (each x) (first-by f g each l) e
 
 -- k stretches were enough: the check
-pub checked : (k : ℕ) (t : Tree) (h : Range) (im : Images) (r : Report) → checkBy k t h im ≡ some r → check t h im ≡ r
+pub checked : (k : ℕ) (t : Tree) (im : Images) (r : Report) → checkBy k t im ≡ some r → check t im ≡ r
 unfolding checkBy onBusBy check onBus
-checked k t h im r e =
-    first-by (onBus t h im) (onBusBy k t h im)
+checked k t im r e =
+    first-by (onBus t im) (onBusBy k t im)
     (λ bus s.
-    first-by (inSpace t h im bus) (λ space. sweepBy k t h im bus space (firstOf space))
-    (λ space u. swept t h im bus space k u) (Configuration ∷ Memory ∷ Io ∷ []) s)
+    first-by (inSpace t im bus) (λ space. sweepBy k t im bus space (firstOf space))
+    (λ space u. swept t im bus space k u) (Configuration ∷ Memory ∷ Io ∷ []) s)
     (buses t) r e

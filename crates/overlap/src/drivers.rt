@@ -10,8 +10,9 @@ use crate::Report;
 use claims::Claimants;
 use claims::Space;
 use claims::Transaction;
+use rack::table::Table;
+use rack::table::count_of;
 use rack::table::parent_at;
-use window::Range;
 
 pub fn is_fault(r: Report) -> bool
     ensures { λ s. ⌜ s ≡ isFault r ⌝ }
@@ -49,17 +50,15 @@ fn shown_by(bus: u8, space: Space, a: u64, driver: u8, c: Claimants) -> Report
 
 // One driver at one address.
 fn driven_by<'a>(
-    words: &[u64; 192],
-    count: u8,
+    table: &Table,
     bridges: &'a [u8],
     devices: &'a [u8],
-    host: Range,
     bus: u8,
     space: Space,
     a: u64,
     by: u8,
 ) -> Report
-    ensures { λ r. ⌜ r ≡ driven (treeOf count (now (words .entry))) host (images (now (bridges .entry)) (now (devices .entry))) bus space a by ⌝ }
+    ensures { λ r. ⌜ r ≡ driven (treeOf (now (table .entry))) (images (now (bridges .entry)) (now (devices .entry))) bus space a by ⌝ }
 {
     let t = Transaction {
         space,
@@ -67,27 +66,26 @@ fn driven_by<'a>(
         driver: by,
         address: a,
     };
-    let c = claimants::bus::claimants_of(words, count, bridges, devices, host, t);
+    let c = claimants::bus::claimants_of(table, bridges, devices, t);
     shown_by(bus, space, a, by, c)
 }
 
 // The nodes on a bus as drivers.
 fn nodes_drive<'a>(
-    words: &[u64; 192],
-    count: u8,
+    table: &Table,
     bridges: &'a [u8],
     devices: &'a [u8],
-    host: Range,
     bus: u8,
     space: Space,
     a: u64,
 ) -> Report
-    ensures { λ r. ⌜ r ≡ firstIn (driven (treeOf count (now (words .entry))) host (images (now (bridges .entry)) (now (devices .entry))) bus space a) (nodesOn (treeOf count (now (words .entry))) bus) ⌝ }
+    ensures { λ r. ⌜ r ≡ firstIn (driven (treeOf (now (table .entry))) (images (now (bridges .entry)) (now (devices .entry))) bus space a) (nodesOn (treeOf (now (table .entry))) bus) ⌝ }
 {
+    let count = count_of(table);
     let mut i: u8 = 0;
     while i < count {
-        if parent_at(words, i) == bus {
-            let r = driven_by(words, count, bridges, devices, host, bus, space, a, i);
+        if parent_at(table, i) == bus {
+            let r = driven_by(table, bridges, devices, bus, space, a, i);
             if is_fault(r) {
                 return r;
             }
@@ -101,46 +99,40 @@ fn nodes_drive<'a>(
 
 // All agents of a bus as drivers.
 fn agents_drive<'a>(
-    words: &[u64; 192],
-    count: u8,
+    table: &Table,
     bridges: &'a [u8],
     devices: &'a [u8],
-    host: Range,
     bus: u8,
     space: Space,
     a: u64,
 ) -> Report
-    ensures { λ r. ⌜ r ≡ firstIn (driven (treeOf count (now (words .entry))) host (images (now (bridges .entry)) (now (devices .entry))) bus space a) (agents (treeOf count (now (words .entry))) bus) ⌝ }
+    ensures { λ r. ⌜ r ≡ firstIn (driven (treeOf (now (table .entry))) (images (now (bridges .entry)) (now (devices .entry))) bus space a) (agents (treeOf (now (table .entry))) bus) ⌝ }
 {
-    let r = driven_by(words, count, bridges, devices, host, bus, space, a, bus);
+    let r = driven_by(table, bridges, devices, bus, space, a, bus);
     if is_fault(r) {
         return r;
     }
-    nodes_drive(words, count, bridges, devices, host, bus, space, a)
+    nodes_drive(table, bridges, devices, bus, space, a)
 }
 
 // The first driver of a space: of configuration the holder alone.
 fn first_driver<'a>(
-    words: &[u64; 192],
-    count: u8,
+    table: &Table,
     bridges: &'a [u8],
     devices: &'a [u8],
-    host: Range,
     bus: u8,
     space: Space,
     a: u64,
 ) -> Report
-    ensures { λ r. ⌜ r ≡ atValue (treeOf count (now (words .entry))) host (images (now (bridges .entry)) (now (devices .entry))) bus space a ⌝ }
+    ensures { λ r. ⌜ r ≡ atValue (treeOf (now (table .entry))) (images (now (bridges .entry)) (now (devices .entry))) bus space a ⌝ }
 {
     match space {
-        Space::Memory => agents_drive(words, count, bridges, devices, host, bus, Space::Memory, a),
-        Space::Io => agents_drive(words, count, bridges, devices, host, bus, Space::Io, a),
+        Space::Memory => agents_drive(table, bridges, devices, bus, Space::Memory, a),
+        Space::Io => agents_drive(table, bridges, devices, bus, Space::Io, a),
         Space::Configuration => driven_by(
-            words,
-            count,
+            table,
             bridges,
             devices,
-            host,
             bus,
             Space::Configuration,
             a,
@@ -151,21 +143,19 @@ fn first_driver<'a>(
 
 // What is found at an address, where no more than `claiming` agents claim: drivers are tried only if there are two.
 pub fn found_at<'a>(
-    words: &[u64; 192],
-    count: u8,
+    table: &Table,
     bridges: &'a [u8],
     devices: &'a [u8],
-    host: Range,
     bus: u8,
     space: Space,
     a: u64,
     claiming: usize,
 ) -> Report
-    requires { ⌜ (claiming ≤ 1 → atValue (treeOf count (now words)) host (images (now bridges) (now devices)) bus space a ≡ Pass) ⌝ }
-    ensures { λ r. ⌜ r ≡ atValue (treeOf count (now (words .entry))) host (images (now (bridges .entry)) (now (devices .entry))) bus space a ⌝ }
+    requires { ⌜ (claiming ≤ 1 → atValue (treeOf (now table)) (images (now bridges) (now devices)) bus space a ≡ Pass) ⌝ }
+    ensures { λ r. ⌜ r ≡ atValue (treeOf (now (table .entry))) (images (now (bridges .entry)) (now (devices .entry))) bus space a ⌝ }
 {
     if claiming <= 1 {
         return Report::Pass;
     }
-    first_driver(words, count, bridges, devices, host, bus, space, a)
+    first_driver(table, bridges, devices, bus, space, a)
 }

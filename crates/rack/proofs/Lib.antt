@@ -1,4 +1,3 @@
 -- What the functions' proofs use.
 mod Words
-mod Filled
 mod Grown

@@ -1,6 +1,6 @@
 -- Laws of counting and searching below a number.
 -- Assumes nothing.
-use mathlib.Core.Path.{_≡_, refl}
+use mathlib.Core.Path.{_≡_, refl, sym, ap, _∙_}
 use Prim.Native.Nat.{ℕ, zero, suc, _+_, _-_, _≤_, _<_}
 use native.Mathlib.Numerals.{add-one}
 use native.Mathlib.Omega.{arith}
@@ -46,6 +46,9 @@ pub count-again : (f : ℕ → Bool) (i : ℕ) {k v : ℕ} {b : Bool} → k ≡ 
     → k + v ≡ countOf f (i + 1)
 count-again f i ek eb ev = rw (count-step f i, ek, ev, eb)
 
+pub count-all : (f : ℕ → Bool) {i n k : ℕ} → k ≡ countOf f i → i ≤ n → n ≤ i → k ≡ countOf f n
+count-all f {i} {n} e l h = let q : i ≡ n = omega arith in e ∙ ap (countOf f) q
+
 -- the turns of a loop that searches from j on
 pub left-suc : (j n : ℕ) → j < n → n - j ≡ suc (n - (j + 1))
 left-suc j n h = omega arith
@@ -53,14 +56,23 @@ left-suc j n h = omega arith
 pub left-none : (j n : ℕ) → n ≤ j → n - j ≡ 0
 left-none j n h = omega arith
 
-pub some-found : (f : ℕ → Bool) (j n : ℕ) → j < n → f j ≡ true → someFrom f j (n - j) ≡ true
-unfolding someFrom
-some-found f j n h e = rw (left-suc j n h, e)
+-- a search that has found none before i
+abbrev pub NoneYet : (ℕ → Bool) → ℕ → ℕ → Type 0
+NoneYet f n i = someFrom f 0 n ≡ someFrom f i (n - i)
 
-pub some-next : (f : ℕ → Bool) (j n : ℕ) → j < n → f j ≡ false → someFrom f j (n - j) ≡ someFrom f (j + 1) (n - (j + 1))
-unfolding someFrom
-some-next f j n h e = rw (left-suc j n h, e)
+pub none-yet : (f : ℕ → Bool) (n : ℕ) → NoneYet f n 0
+none-yet f n = let e : n ≡ n - 0 = omega arith in ap (someFrom f 0) e
 
-pub some-none : (f : ℕ → Bool) (j n : ℕ) → n ≤ j → someFrom f j (n - j) ≡ false
-unfolding someFrom
-some-none f j n h = rw (left-none j n h)
+module _ (f : ℕ → Bool) {n i : ℕ} (yet : NoneYet f n i) where
+  pub some-next : {b : Bool} → i < n → b ≡ f i → b ≡ false → NoneYet f n (i + 1)
+  unfolding someFrom
+  some-next h e q = yet ∙ rw (left-suc i n h, ← e, q)
+
+  module _ {count : ℕ} (at : n ≡ count) where
+    pub some-found : {b : Bool} → i < n → b ≡ f i → b ≡ true → true ≡ someFrom f 0 count
+    unfolding someFrom
+    some-found h e q = sym (ap (someFrom f 0) (sym at) ∙ yet ∙ rw (left-suc i n h, ← e, q))
+
+    pub some-none : n ≤ i → false ≡ someFrom f 0 count
+    unfolding someFrom
+    some-none h = sym (ap (someFrom f 0) (sym at) ∙ yet ∙ rw (left-none i n h))

@@ -5,9 +5,10 @@ pub mod CountLaws
 pub mod Search
 pub mod Tree
 pub mod TreeLaws
-pub mod Placed
+pub mod Stored
+pub mod First
+pub mod FirstLaws
 pub mod Refusal
-pub mod RefusalLaws
 pub mod Table
 pub mod Grow
 pub mod GrowLaws

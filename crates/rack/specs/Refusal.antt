@@ -1,11 +1,13 @@
 -- Refusals 6 to 10 of a decoded rack, node by node as a file would meet them. Each number is a predicate of its own.
 -- Assumes nothing: these are definitions.
-use Prim.Native.Nat.{ℕ, zero, suc, _+_}
+use Prim.Native.Nat.{ℕ}
 use mathlib.Core.Bool.{Bool, not, _&&_, _||_, cond}
+use mathlib.Core.List.{List, [], _∷_}
 use lib.Dec.{leb, ltb, eqb}
 use Rattle.rack.specs.declared.Node.{Node}
 use Rattle.rack.specs.Node.{isBridge, regionIn}
 use Rattle.rack.specs.Count.{some}
+use Rattle.rack.specs.First.{_when_, first, firstFrom}
 use Rattle.rack.specs.Tree.{Tree, host, bridgesBelow, devicesBelow}
 
 -- 6: 'A 33rd bridge or 65th device appears'
@@ -44,19 +46,17 @@ regionsRange n =
 unfoldable pub badRegion : (ℕ → Node) → ℕ → Bool
 badRegion node i = not (isBridge (node i .kind) || regionsRange (node i))
 
--- the lowest number that applies to a node, 0 where none does
+-- each number with its test, in this order
+abbrev pub nodeFaults : (ℕ → Node) → ℕ → List ℕ
+nodeFaults node i =
+    6 when tooMany node i ∷ 7 when badParent node i ∷ 8 when highDevice node i ∷ 9 when takenDevice node i
+    ∷ 10 when badRegion node i ∷ []
+
+-- the first that applies to a node, 0 where none does
 unfoldable pub nodeRefusal : (ℕ → Node) → ℕ → ℕ
-nodeRefusal node i =
-    cond (tooMany node i) 6
-    (cond (badParent node i) 7
-    (cond (highDevice node i) 8 (cond (takenDevice node i) 9 (cond (badRegion node i) 10 0))))
+nodeRefusal node i = first (nodeFaults node i)
 
--- the first that is not 0 among the `left` nodes from i on
-unfoldable pub refusalFrom : (ℕ → Node) → ℕ → ℕ → ℕ
-refusalFrom node i zero = 0
-refusalFrom node i (suc left) =
-    cond (eqb (nodeRefusal node i) 0) (refusalFrom node (i + 1) left) (nodeRefusal node i)
-
--- the refusal of a rack, 0 where there is none. A rack of more than 96 nodes has a 33rd bridge or a 65th device among its first 97
+-- 01: '6 to 10 .. node by node': that of the first faulty node, 0 where there is none. A rack of more than 96 nodes has a 33rd bridge
+-- or a 65th device among its first 97
 abbrev pub rackRefusal : Tree → ℕ
-rackRefusal t = refusalFrom (t .node) 0 (t .count)
+rackRefusal t = firstFrom (nodeRefusal (t .node)) 0 (t .count)

@@ -1,17 +1,17 @@
--- How a rack is stored for lending: two words for each of 96 nodes, eight bytes to a word. Contracts of code
--- above name `treeOf` and `nodeAt`; the rest is for `table.rt` and `grow.rt` alone.
+-- How a rack is stored for lending: two words for each of 96 nodes, eight bytes to a word, and three words behind them. Contracts
+-- of code above name `treeOf` and `nodeAt`; the rest is for `table.rt` and `grow.rt` alone.
 -- Assumes nothing: these are definitions.
 use mathlib.Core.Path.{_≡_}
-use Prim.Native.Nat.{ℕ, _+_, _*_, _/_, _%_}
+use Prim.Native.Nat.{ℕ, _+_, _*_, _/_, _%_, min}
 use mathlib.Core.Bool.{cond}
 use mathlib.Core.List.{List, [], _∷_}
 use lib.Dec.{ltb, eqb}
-use lib.ListN.{getD}
+use lib.ListN.{getD, set}
 use Rattle.rack.specs.declared.Kind.{Kind}
 use Rattle.rack.specs.declared.Kind.the-variants.{Bridge, Device}
 use Rattle.rack.specs.declared.Region.{Region}
 use Rattle.rack.specs.declared.Node.{Node}
-use Rattle.rack.specs.Node.{kindNumber, regionIn, spelt, noNode}
+use Rattle.rack.specs.Node.{kindNumber, regionIn}
 use Rattle.rack.specs.Tree.{Tree}
 
 -- a word holds eight bytes, lowest first
@@ -25,18 +25,22 @@ pub record Bytes (w a b c d e f g h : ℕ) : Type 0 where
   pub byte-6 : w / 0x1000000000000 % 256 ≡ g
   pub byte-7 : w / 0x100000000000000 % 256 ≡ h
 
--- what the two words of a node and its place hold
+-- what the two words of a node hold, with its place and the depth of its bus
 abbrev pub Low : Node → ℕ → ℕ → Type 0
 Low n place w =
     Bytes w (kindNumber (n .kind)) (n .parent) (n .device) place
     (regionIn n 0 .kind) (regionIn n 0 .exponent) (regionIn n 1 .kind) (regionIn n 1 .exponent)
 
-abbrev pub High : Node → ℕ → Type 0
-High n w =
+abbrev pub High : Node → ℕ → ℕ → Type 0
+High n depth w =
     Bytes w (regionIn n 2 .kind) (regionIn n 2 .exponent) (n .«vendor_id» % 256) (n .«vendor_id» / 256)
-    (n .«device_id» % 256) (n .«device_id» / 256) 0 0
+    (n .«device_id» % 256) (n .«device_id» / 256) depth 0
 
--- the node and the place that two words hold
+-- what the last word holds
+abbrev pub End : ℕ → ℕ → ℕ → Type 0
+End count deepest w = Bytes w count deepest 0 0 0 0 0 0
+
+-- the node that two words hold
 abbrev pub kindFrom : ℕ → Kind
 kindFrom n = cond (eqb n 2) Bridge Device
 
@@ -58,12 +62,35 @@ nodeFrom low high =
           ∷ [];
     }
 
-unfoldable pub nodeAt : List ℕ → ℕ → Node
-nodeAt words i = cond (ltb i 96) (nodeFrom (getD words (2 * i) 0) (getD words (2 * i + 1) 0)) (spelt noNode)
+-- the two words of node i, 0 where a table has none
+unfoldable pub lowAt : List ℕ → ℕ → ℕ
+lowAt table i = cond (ltb i 96) (getD table (2 * i) 0) 0
 
-unfoldable pub placeAt : List ℕ → ℕ → ℕ
-placeAt words i = cond (ltb i 96) (getD words (2 * i) 0 / 0x1000000 % 256) 0
+unfoldable pub highAt : List ℕ → ℕ → ℕ
+highAt table i = cond (ltb i 96) (getD table (2 * i + 1) 0) 0
+
+unfoldable pub nodeAt : List ℕ → ℕ → Node
+nodeAt table i = nodeFrom (lowAt table i) (highAt table i)
+
+abbrev pub placeAt : List ℕ → ℕ → ℕ
+placeAt table i = lowAt table i / 0x1000000 % 256
+
+-- whatever a table holds, no bus is deeper than there are nodes to it
+abbrev pub depthAt : List ℕ → ℕ → ℕ
+depthAt table i = min (i + 1) (highAt table i / 0x1000000000000 % 256)
 
 -- the tree that a table holds
-abbrev pub treeOf : ℕ → List ℕ → Tree
-treeOf count words = record { count = count; node = nodeAt words; place = placeAt words }
+abbrev pub treeOf : List ℕ → Tree
+treeOf table =
+    record {
+      count = getD table 194 0 % 256;
+      hostMemory = record { first = getD table 192 0; last = getD table 193 0 };
+      node = nodeAt table;
+      place = placeAt table;
+      depthOf = depthAt table;
+      deepest = getD table 194 0 / 0x100 % 256;
+    }
+
+-- a table with the two words of node i set, and the last
+abbrev pub tableWith : List ℕ → ℕ → ℕ → ℕ → ℕ → List ℕ
+tableWith table i low high end = set (set (set table (2 * i) low) (2 * i + 1) high) 194 end

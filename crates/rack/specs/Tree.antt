@@ -1,20 +1,28 @@
 -- The tree of a rack. Everything above is defined over `Tree`, which does not say how the nodes are stored.
 -- Assumes nothing: these are definitions.
-use Prim.Native.Nat.{ℕ, zero, suc, _+_, max}
-use mathlib.Core.Bool.{not, cond}
+use mathlib.Core.Path.{_≡_}
+use mathlib.Core.Logic.{_⊎_}
+use Prim.Native.Nat.{ℕ, zero, suc, _+_, _<_, min, max}
+use mathlib.Core.Bool.{true, not, cond}
 use mathlib.Core.List.{List, [], _∷_}
 use lib.Dec.{ltb, eqb}
 use lib.ListN.{getD}
+use Rattle.rack.specs.declared.Kind.{Kind}
 use Rattle.rack.specs.declared.Node.{Node}
+use Rattle.rack.specs.declared.Range.{Range}
 use Rattle.rack.specs.declared.Rack.{Rack}
 use Rattle.rack.specs.Node.{isBridge, spelt, noNode}
 use Rattle.rack.specs.Count.{countOf}
 
--- how many nodes there are, each of them by its number, and the place of each in its image
+-- how many nodes there are, host memory, and each node by its number. Of each node a table stores its place in its image and the
+-- depth of the bus that it holds, and the greatest depth: `Stored` says that they are those defined below
 pub record Tree : Type 0 where
   pub count : ℕ
+  pub hostMemory : Range
   pub node : ℕ → Node
   pub place : ℕ → ℕ
+  pub depthOf : ℕ → ℕ
+  pub deepest : ℕ
 
 -- 01: '255, the root bus; 255 also names the host'. A bus is named by its holder
 abbrev pub host : ℕ
@@ -37,17 +45,54 @@ bridgeCount t = bridgesBelow (t .node) (t .count)
 abbrev pub deviceCount : Tree → ℕ
 deviceCount t = devicesBelow (t .node) (t .count)
 
--- the tree of a decoded rack, which has room for 96 nodes
-unfoldable pub nodeOf : Rack → ℕ → Node
-nodeOf rack i = spelt (cond (ltb i 96) (getD (rack .nodes) i noNode) noNode)
+-- how many nodes the image holds that has nodes of a kind
+abbrev pub imageCount : Tree → Kind → ℕ
+imageCount t k = cond (isBridge k) (bridgeCount t) (deviceCount t)
 
+-- 01: 'The root bus has depth 0, a bridge's bus one more than the bus it sits on', as one pass over the first n nodes finds it: what is
+-- no earlier node has depth 0 as the root bus has
+unfoldable pub busDepth : (ℕ → Node) → ℕ → ℕ → ℕ
+busDepth node zero bus = 0
+busDepth node (suc n) bus = cond (eqb bus n) (busDepth node n (node n .parent) + 1) (busDepth node n bus)
+
+-- the greatest of the bridges among the first n nodes
+unfoldable pub deepestOf : (ℕ → Node) → ℕ → ℕ
+deepestOf node zero = 0
+deepestOf node (suc n) = max (deepestOf node n) (cond (isBridge (node n .kind)) (busDepth node (n + 1) n) 0)
+
+-- the tree of n nodes, with what is stored of them
+abbrev pub treeWith : Range → (ℕ → Node) → ℕ → Tree
+treeWith h node n =
+    record {
+      count = n;
+      hostMemory = h;
+      node = node;
+      place = λ i. cond (ltb i n) (placeOf node i) 0;
+      depthOf = busDepth node n;
+      deepest = deepestOf node n;
+    }
+
+-- the first n nodes of a decoded rack
+unfoldable pub firstNodes : Rack → ℕ → ℕ → Node
+firstNodes rack n i = spelt (cond (ltb i n) (getD (rack .nodes) i noNode) noNode)
+
+-- a tree with another count
+abbrev pub counting : ℕ → Tree → Tree
+counting n t =
+    record {
+      count = n;
+      hostMemory = t .hostMemory;
+      node = t .node;
+      place = t .place;
+      depthOf = t .depthOf;
+      deepest = t .deepest;
+    }
+
+-- the tree of a decoded rack, which has room for 96 nodes
 abbrev pub tree : Rack → Tree
 tree rack =
-    record {
-      count = rack .count;
-      node = nodeOf rack;
-      place = λ i. cond (ltb i 96) (placeOf (nodeOf rack) i) 0;
-    }
+    let n = min 96 (rack .count) in
+    counting (rack .count) (treeWith (record { first = rack .first; last = rack .last }) (firstNodes rack n) n)
 
 -- the bus that a node sits on
 abbrev pub parentOf : Tree → ℕ → ℕ
@@ -75,6 +120,10 @@ bridgesFrom t i (suc left) =
 -- 01: 'Buses in order (root, then bridges by number)'
 abbrev pub buses : Tree → List ℕ
 buses t = host ∷ bridgesFrom t 0 (t .count)
+
+-- a bus of the rack: the root bus or a bridge's
+abbrev pub IsBus : Tree → ℕ → Type 0
+IsBus t bus = (bus ≡ host) ⊎ ((bus < t .count) × (isBridge (t .node bus .kind) ≡ true))
 
 -- 01: 'The root bus has depth 0, a bridge's bus one more than the bus it sits on', at most `steps` up
 unfoldable pub depthIn : Tree → ℕ → ℕ → ℕ

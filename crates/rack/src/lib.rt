@@ -27,6 +27,12 @@ pub struct Node {
     pub regions: [Region; 3],
 }
 
+// Addresses from first to last, both in; none where first is above last.
+pub struct Range {
+    pub first: u64,
+    pub last: u64,
+}
+
 // A decoded rack: first and last address of host memory, and `count` nodes in file order.
 // It may hold anything; crate `refusals` says whether it is a rack.
 pub struct Rack {

@@ -1,20 +1,20 @@
-// A rack as two words for each node, which is lent to everything below an open call: a rack by value would be copied at
-// every call.
+// A rack as a table of words, which is lent to everything below an open call: a rack by value would be copied at every call.
 ghost use mathlib.Core.Path.{_≡_};
-ghost use Prim.Native.Nat.{_+_, _/_, _%_, _<_};
+ghost use Prim.Native.Nat.{_+_, _/_, _%_, _<_, min, max};
 ghost use mathlib.Core.Bool.{cond};
-ghost use Rattle.rack.specs.Tree.{tree, bridgesBelow};
+ghost use Rattle.rack.specs.Tree.{tree, counting, bridgesBelow};
 ghost use Rattle.rack.specs.Node.{isBridge};
-ghost use Rattle.rack.specs.Table.{Bytes, Low, High, kindFrom, nodeFrom, nodeAt, placeAt, treeOf};
+ghost use Rattle.rack.specs.Table.{Bytes, Low, High, End, kindFrom, nodeFrom, lowAt, highAt, nodeAt, treeOf};
 use crate::Kind;
 use crate::Node;
 use crate::Rack;
+use crate::Range;
 use crate::Region;
+use crate::grow::add_node;
+use crate::grow::no_table;
 
-pub struct Table {
-    pub count: u8,
-    pub words: [u64; 192],
-}
+// Two words for each of 96 nodes, then the host memory's first and last address, then the count and the greatest depth.
+pub type Table = [u64; 195];
 
 // Eight bytes, lowest first.
 fn word_of(a: u8, b: u8, c: u8, d: u8, e: u8, f: u8, g: u8, h: u8) -> u64
@@ -45,8 +45,8 @@ pub fn low_word(n: Node, place: u8) -> u64
     )
 }
 
-pub fn high_word(n: Node) -> u64
-    ensures { λ r. ⌜ High n r ⌝ }
+pub fn high_word(n: Node, depth: u8) -> u64
+    ensures { λ r. ⌜ High n depth r ⌝ }
 {
     let r = n.regions[2];
     word_of(
@@ -56,9 +56,16 @@ pub fn high_word(n: Node) -> u64
         (n.vendor_id / 256) as u8,
         (n.device_id % 256) as u8,
         (n.device_id / 256) as u8,
-        0,
+        depth,
         0,
     )
+}
+
+// The last word.
+pub fn end_word(count: u8, deepest: u8) -> u64
+    ensures { λ r. ⌜ End count deepest r ⌝ }
+{
+    word_of(count, deepest, 0, 0, 0, 0, 0, 0)
 }
 
 fn kind_from(n: u64) -> Kind
@@ -92,70 +99,95 @@ fn node_from(low: u64, high: u64) -> Node
     }
 }
 
-pub fn node_at(words: &[u64; 192], i: usize) -> Node
-    ensures { λ r. ⌜ r ≡ nodeAt (now (words .entry)) i ⌝ }
+pub fn count_of(table: &Table) -> u8
+    ensures { λ r. ⌜ r ≡ treeOf (now (table .entry)) .count ⌝ }
 {
-    if i < 96 {
-        node_from(words[2 * i], words[2 * i + 1])
-    } else {
-        let none = Region {
-            kind: 0,
-            exponent: 0,
-        };
-        Node {
-            kind: Kind::Device,
-            parent: 0,
-            device: 0,
-            vendor_id: 0,
-            device_id: 0,
-            regions: [none, none, none],
-        }
+    (table[194] % 256) as u8
+}
+
+pub fn host_memory(table: &Table) -> Range
+    ensures { λ r. ⌜ r ≡ treeOf (now (table .entry)) .hostMemory ⌝ }
+{
+    Range {
+        first: table[192],
+        last: table[193],
     }
+}
+
+// The greatest depth.
+pub fn deepest(table: &Table) -> u8
+    ensures { λ r. ⌜ r ≡ treeOf (now (table .entry)) .deepest ⌝ }
+{
+    (table[194] / 0x100 % 256) as u8
+}
+
+fn low_at(table: &Table, i: usize) -> u64
+    ensures { λ r. ⌜ r ≡ lowAt (now (table .entry)) i ⌝ }
+{
+    if i < 96 { table[2 * i] } else { 0 }
+}
+
+fn high_at(table: &Table, i: usize) -> u64
+    ensures { λ r. ⌜ r ≡ highAt (now (table .entry)) i ⌝ }
+{
+    if i < 96 { table[2 * i + 1] } else { 0 }
+}
+
+pub fn node_at(table: &Table, i: usize) -> Node
+    ensures { λ r. ⌜ r ≡ nodeAt (now (table .entry)) i ⌝ }
+{
+    node_from(low_at(table, i), high_at(table, i))
 }
 
 // The bus that a node sits on: one word, since every bus asks it of every node.
-pub fn parent_at(words: &[u64; 192], i: u8) -> u8
-    ensures { λ r. ⌜ r ≡ nodeAt (now (words .entry)) i .parent ⌝ }
+pub fn parent_at(table: &Table, i: u8) -> u8
+    ensures { λ r. ⌜ r ≡ nodeAt (now (table .entry)) i .parent ⌝ }
 {
-    let at = i as usize;
-    if at < 96 {
-        (words[2 * at] / 0x100 % 256) as u8
-    } else {
-        0
-    }
+    (low_at(table, i as usize) / 0x100 % 256) as u8
+}
+
+// Its device number, from the same word.
+pub fn device_at(table: &Table, i: u8) -> u8
+    ensures { λ r. ⌜ r ≡ nodeAt (now (table .entry)) i .device ⌝ }
+{
+    (low_at(table, i as usize) / 0x1_0000 % 256) as u8
 }
 
 // Whether a node is a bridge, from one word too.
-pub fn is_bridge_at(words: &[u64; 192], i: u8) -> bool
-    ensures { λ r. ⌜ r ≡ isBridge (nodeAt (now (words .entry)) i .kind) ⌝ }
+fn bridge_in(table: &Table, i: usize) -> bool
+    ensures { λ r. ⌜ r ≡ isBridge (nodeAt (now (table .entry)) i .kind) ⌝ }
 {
-    let at = i as usize;
-    if at < 96 {
-        return words[2 * at] % 256 == 2;
-    }
-    false
+    low_at(table, i) % 256 == 2
 }
 
-pub fn place_at(words: &[u64; 192], i: usize) -> u8
-    ensures { λ r. ⌜ r ≡ placeAt (now (words .entry)) i ⌝ }
+pub fn is_bridge_at(table: &Table, i: u8) -> bool
+    ensures { λ r. ⌜ r ≡ isBridge (nodeAt (now (table .entry)) i .kind) ⌝ }
 {
-    if i < 96 {
-        (words[2 * i] / 0x100_0000 % 256) as u8
-    } else {
-        0
-    }
+    bridge_in(table, i as usize)
+}
+
+pub fn place_at(table: &Table, i: usize) -> u8
+    ensures { λ r. ⌜ r ≡ treeOf (now (table .entry)) .place i ⌝ }
+{
+    (low_at(table, i) / 0x100_0000 % 256) as u8
+}
+
+// The depth of the bus that a node holds, 0 of the root bus.
+pub fn depth_at(table: &Table, bus: u8) -> u8
+    ensures { λ r. ⌜ r ≡ treeOf (now (table .entry)) .depthOf bus ⌝ }
+{
+    let depth = (high_at(table, bus as usize) / 0x1_0000_0000_0000 % 256) as u8;
+    if bus < depth { bus + 1 } else { depth }
 }
 
 // How many bridges are among the first n nodes.
-pub fn bridges_below(words: &[u64; 192], n: usize) -> usize
-    ensures { λ r. ⌜ r ≡ bridgesBelow (nodeAt (now (words .entry))) n ⌝ }
+pub fn bridges_below(table: &Table, n: usize) -> usize
+    ensures { λ r. ⌜ r ≡ bridgesBelow (nodeAt (now (table .entry))) n ⌝ }
 {
     let mut found: usize = 0;
     let mut i: usize = 0;
     while i < n {
-        let node = node_at(words, i);
-        let kind = node.kind;
-        found += pick(crate::is_bridge(kind), 1, 0) as usize;
+        found += pick(bridge_in(table, i), 1, 0) as usize;
         i += 1;
     }
     found
@@ -168,26 +200,41 @@ pub fn pick(yes: bool, a: u8, b: u8) -> u8
     if yes { a } else { b }
 }
 
-// The table of a rack: each node with its place in its image, worked out once.
-pub fn table_of(rack: Rack) -> Table
-    ensures { λ r. ⌜ treeOf (r .count) (r .words) ≡ tree rack ⌝ }
+pub fn lesser(a: u8, b: u8) -> u8
+    ensures { λ r. ⌜ r ≡ min a b ⌝ }
 {
-    let mut words = [0u64; 192];
-    let mut bridges: u8 = 0;
-    let mut devices: u8 = 0;
+    if a < b { a } else { b }
+}
+
+pub fn greater(a: u8, b: u8) -> u8
+    ensures { λ r. ⌜ r ≡ max a b ⌝ }
+{
+    if a < b { b } else { a }
+}
+
+// Another count; all else stays.
+fn set_count(table: &mut Table, count: u8)
+    ensures { λ _. ⌜ treeOf (now (table .exit)) ≡ counting count (treeOf (now (table .entry))) ⌝ }
+{
+    let end = end_word(count, deepest(table));
+    let all = &mut table[..];
+    all[194] = end;
+}
+
+// The table of a rack, node by node.
+pub fn table_of(rack: Rack) -> Table
+    ensures { λ r. ⌜ treeOf r ≡ tree rack ⌝ }
+{
+    let mut table = no_table(Range {
+        first: rack.first,
+        last: rack.last,
+    });
+    let end = lesser(96, rack.count) as usize;
     let mut i: usize = 0;
-    while i < 96 {
-        let n = rack.nodes[i];
-        let kind = n.kind;
-        let is = crate::is_bridge(kind);
-        words[2 * i] = low_word(n, pick(is, bridges, devices));
-        words[2 * i + 1] = high_word(n);
-        bridges += pick(is, 1, 0);
-        devices += pick(is, 0, 1);
+    while i < end {
+        add_node(&mut table, rack.nodes[i]);
         i += 1;
     }
-    Table {
-        count: rack.count,
-        words,
-    }
+    set_count(&mut table, rack.count);
+    table
 }

@@ -1,19 +1,21 @@
--- The depth of a bus in an accepted rack: the way up ends at the root, after at most 32 steps.
+-- The depth of a bus in an accepted rack: the way up ends at the root, after at most 32 steps, and one pass over the nodes finds it.
 -- Assumes nothing.
 use mathlib.Core.Path.{_≡_, refl, sym, ap, _∙_}
-use mathlib.Core.Bool.{true, false≢true}
+use mathlib.Core.Bool.{true, false≢true, cond}
 use mathlib.Core.Logic.{⊎-elim}
-use Prim.Native.Nat.{ℕ, zero, suc, _+_, _≤_, _<_}
+use Prim.Native.Nat.{ℕ, zero, suc, _+_, _-_, _≤_, _<_, max}
 use native.Mathlib.Omega.{arith}
 use native.Mathlib.Numerals.{add-one}
 use lib.Dec.{eqb}
 use borrow.Author.Tests.{ne-eqb, eqb-true, eqb-false}
 use Rattle.rack.specs.Node.{isBridge}
 use Rattle.rack.specs.Bools.{tested}
-use Rattle.rack.specs.Tree.{Tree, host, parentOf, bridgesBelow, bridgesFrom, depthIn, depth, greatestOf, greatestDepth}
+use Rattle.rack.specs.Tree.{Tree, host, parentOf, bridgesBelow, bridgesFrom, IsBus, busDepth, deepestOf, depthIn, depth, greatestOf, greatestDepth}
+use Rattle.rack.specs.TreeLaws.{depth-none}
+use Rattle.rack.specs.CountLaws.{left-suc, left-none}
 use Rattle.rack.specs.Refusal.{rackRefusal}
 use Rattle.rack_laws.specs.Counts.{count-mono, count-past}
-use Rattle.rack_laws.specs.Sound.{parent-is, bridges-le, not-host}
+use Rattle.rack_laws.specs.Sound.{parent-is, bridges-le, nodes-le, not-host}
 
 module _ (t : Tree) where
   -- the root bus has depth 0, whatever the number of steps
@@ -123,3 +125,61 @@ module _ (t : Tree) where
   pub depth-greatest : (i : ℕ) → i < t .count → isBridge (t .node i .kind) ≡ true → depth t i ≤ greatestDepth t
   unfolding greatestOf
   depth-greatest i h b = omega (arith, bridge-in 0 (t .count) i (omega arith) (omega arith) b)
+
+  -- over the bridges, of which some are seen: one more, and at the end
+  greatest-next : (n i : ℕ) → i < n
+      → greatestOf t (bridgesFrom t i (n - i)) ≡ max (cond (isBridge (t .node i .kind)) (depth t i) 0) (greatestOf t (bridgesFrom t (i + 1) (n - (i + 1))))
+  unfolding bridgesFrom greatestOf
+  greatest-next n i h =
+      rw (left-suc i n h) (tested (isBridge (t .node i .kind)) (λ q. rw q) (λ q. rw q (sym (zero-max _))))
+    where
+      zero-max : (k : ℕ) → max 0 k ≡ k
+      zero-max k = omega arith
+
+  greatest-end : (n i : ℕ) → n ≤ i → greatestOf t (bridgesFrom t i (n - i)) ≡ 0
+  unfolding bridgesFrom greatestOf
+  greatest-end n i h = rw (left-none i n h)
+
+  -- the root bus adds nothing
+  greatest-is : greatestDepth t ≡ greatestOf t (bridgesFrom t 0 (t .count))
+  unfolding greatestOf
+  greatest-is = omega (arith, depth-root)
+
+  module _ (ok : rackRefusal t ≡ 0) where
+    -- one pass over the first nodes finds the depths of their buses
+    found-below : (k : ℕ) → k ≤ t .count → (bus : ℕ) → bus < k → busDepth (t .node) k bus ≡ depth t bus
+    unfolding busDepth
+    found-below zero h bus b = absurd (omega arith)
+    found-below (suc k) h bus b =
+        tested (eqb bus k)
+        (λ q. rw (q, eqb-true bus k q)
+        (ap (λ (d : ℕ). d + 1)
+        (⊎-elim
+        (λ r. rw r (depth-none (t .node) k host (omega (arith, nodes-le t ok))) ∙ sym (ap (depth t) r ∙ depth-root))
+        (λ r. found-below k (omega arith) (parentOf t k) (r .0))
+        (parent-is t ok k (omega arith)))
+        ∙ sym (depth-step ok k (omega arith))))
+        (λ q. rw q (found-below k (omega arith) bus (omega (arith, eqb-false bus k q))))
+
+    pub depth-found : (bus : ℕ) → IsBus t bus → busDepth (t .node) (t .count) bus ≡ depth t bus
+    depth-found bus is =
+        ⊎-elim (λ r. rw r (depth-none (t .node) (t .count) host (omega (arith, nodes-le t ok)) ∙ sym depth-root))
+        (λ r. found-below (t .count) (omega arith) bus (r .0)) is
+
+    -- and the greatest among them
+    greatest-from : (k : ℕ) → k ≤ t .count → greatestDepth t ≡ max (deepestOf (t .node) k) (greatestOf t (bridgesFrom t k (t .count - k)))
+    unfolding deepestOf
+    greatest-from zero h =
+        let e : t .count ≡ t .count - 0 = omega arith in
+        omega (arith, greatest-is, ap (λ (n : ℕ). greatestOf t (bridgesFrom t 0 n)) e)
+    greatest-from (suc k) h =
+        omega (
+          arith,
+          greatest-from k (omega arith),
+          greatest-next (t .count) k (omega arith),
+          ap (λ (d : ℕ). cond (isBridge (t .node k .kind)) d 0) (found-below (k + 1) (omega arith) k (omega arith)),
+          ap (λ (m : ℕ). greatestOf t (bridgesFrom t m (t .count - m))) (add-one k),
+        )
+
+    pub greatest-found : deepestOf (t .node) (t .count) ≡ greatestDepth t
+    greatest-found = omega (arith, greatest-from (t .count) (omega arith), greatest-end (t .count) (t .count) (omega arith))

@@ -1,34 +1,31 @@
--- A rack that is read node by node: each node that is not refused leaves an accepted rack, with a place for each of its nodes.
+-- A rack that is read node by node: each node that is not refused leaves an accepted rack, which stores what its nodes say.
 -- Assumes nothing.
-use mathlib.Core.Path.{_≡_, refl, sym, ap, _∙_}
+use mathlib.Core.Path.{_≡_, refl, ap, _∙_}
 use mathlib.Core.Bool.{Bool, true, false, cond}
 use Prim.Native.Nat.{ℕ, _≤_, _<_}
 use native.Mathlib.Omega.{arith}
-use native.Mathlib.Nat.{not-suc-le-zero}
 use lib.Dec.{ltb, eqb}
 use borrow.Author.Tests.{eqb-true, eqb-false, ltb-true, le-leb}
 use Rattle.rack.specs.declared.Node.{Node}
+use Rattle.rack.specs.declared.Range.{Range}
 use Rattle.rack.specs.Node.{isBridge}
 use Rattle.rack.specs.Bools.{tested}
 use Rattle.rack.specs.CountLaws.{count-both}
 use Rattle.rack.specs.Search.{some-same}
 use Rattle.rack.specs.Tree.{Tree, bridgesBelow, devicesBelow}
-use Rattle.rack.specs.TreeLaws.{bridges-same, devices-same, place-same}
-use Rattle.rack.specs.Placed.{Placed}
-use Rattle.rack.specs.Refusal.{tooMany, badParent, highDevice, sameSlot, takenDevice, badRegion, nodeRefusal, refusalFrom, rackRefusal}
+use Rattle.rack.specs.TreeLaws.{bridges-same, devices-same}
+use Rattle.rack.specs.First.{first, firstFrom}
+use Rattle.rack.specs.Refusal.{tooMany, badParent, highDevice, sameSlot, takenDevice, badRegion, nodeRefusal, rackRefusal}
 use Rattle.rack.specs.Grow.{noTree, nodesWith, grown}
-use Rattle.rack.specs.GrowLaws.{with-earlier, with-bridges, with-devices}
-use Rattle.rack_laws.specs.Refusals.{accepted, accepts, node-none, none-node}
+use Rattle.rack.specs.GrowLaws.{with-earlier, with-bridges, with-devices, grown-with}
+use Rattle.rack_laws.specs.Refusals.{accepted, accepts}
 use Rattle.rack_laws.specs.Sound.{bridges-le, devices-le}
-use Rattle.rack_laws.specs.Places.{PlacedBy, by-placed}
+use Rattle.rack_laws.specs.Stored.{StoredBy}
 
--- a rack without nodes is accepted, and placed
-pub none-accepted : rackRefusal noTree ≡ 0
-unfolding refusalFrom
-none-accepted = refl
-
-pub none-placed-by : PlacedBy noTree
-none-placed-by i h = absurd (not-suc-le-zero h)
+-- a rack without nodes is accepted
+pub none-accepted : (h : Range) → rackRefusal (noTree h) ≡ 0
+unfolding firstFrom
+none-accepted h = refl
 
 -- the refusal of node i looks at no later node
 module _ (f g : ℕ → Node) (i : ℕ) (s : (j : ℕ) → j ≤ i → f j ≡ g j) where
@@ -73,11 +70,11 @@ module _ (t : Tree) (n : Node) where
   pub grown-accepted : rackRefusal t ≡ 0 → nodeRefusal (nodesWith t n) (t .count) ≡ 0 → rackRefusal (grown t n) ≡ 0
   unfolding grown
   grown-accepted ok new =
-      accepts (grown t n) (λ i h. node-none (nodesWith t n) i
-      (tested (eqb i (t .count)) (λ q. ap (nodeRefusal (nodesWith t n)) (eqb-true i (t .count) q) ∙ new)
+      accepts (grown t n) (λ i h.
+      tested (eqb i (t .count)) (λ q. ap (nodeRefusal (nodesWith t n)) (eqb-true i (t .count) q) ∙ new)
       (λ q.
       let l : i < t .count = omega (arith, eqb-false i (t .count) q) in
-      refusal-same (nodesWith t n) (t .node) i (earlier-same i l) ∙ none-node (t .node) i (accepted t ok i l))))
+      refusal-same (nodesWith t n) (t .node) i (earlier-same i l) ∙ accepted t ok i l))
 
   bridges-full : rackRefusal t ≡ 0 → 96 ≤ t .count → 32 ≤ bridgesBelow (nodesWith t n) (t .count)
   bridges-full ok h =
@@ -99,14 +96,10 @@ module _ (t : Tree) (n : Node) where
 
   -- behind 96 nodes every node is one too many
   pub grown-full : rackRefusal t ≡ 0 → 96 ≤ t .count → nodeRefusal (nodesWith t n) (t .count) ≡ 6
-  unfolding nodeRefusal
+  unfolding nodeRefusal first
   grown-full ok h = rw (full ok h)
 
-  -- each node keeps its place, and the new one gets the next
-  pub grown-placed : PlacedBy t → PlacedBy (grown t n)
+  -- and what is stored is what the nodes say
+  pub grown-stored : StoredBy t → StoredBy (grown t n)
   unfolding grown
-  grown-placed by i h =
-      tested (eqb i (t .count)) (λ q. rw q)
-      (λ q.
-      let l : i < t .count = omega (arith, eqb-false i (t .count) q) in
-      rw q (by i l ∙ sym (place-same (nodesWith t n) (t .node) i (earlier-same i l))))
+  grown-stored by = ap (λ (u : Tree). grown u n) by ∙ grown-with (t .hostMemory) (t .node) (t .count) n

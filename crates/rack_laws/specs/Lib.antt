@@ -4,5 +4,6 @@ pub mod Refusals
 pub mod Sound
 pub mod Places
 pub mod Depths
+pub mod Stored
 pub mod Agents
 pub mod Grown

@@ -1,21 +1,17 @@
--- The places of the nodes of a rack in their images.
+-- The places of the nodes of a rack in their images: each node has one of its own.
 -- Assumes nothing.
 use mathlib.Core.Path.{_≡_, refl, sym, ap, _∙_}
 use mathlib.Core.Bool.{Bool, true, false, not}
 use Prim.Native.Nat.{ℕ, _<_}
 use native.Mathlib.Omega.{arith}
 use lib.Dec.{ltb}
-use borrow.Author.Tests.{lt-ltb, ltb-true, ltb-false}
+use borrow.Author.Tests.{ltb-true, ltb-false}
 use Rattle.rack.specs.declared.Node.{Node}
-use Rattle.rack.specs.declared.Rack.{Rack}
 use Rattle.rack.specs.Node.{isBridge}
 use Rattle.rack.specs.Count.{countOf}
 use Rattle.rack.specs.Bools.{tested}
-use Rattle.rack.specs.Tree.{Tree, placeOf, tree}
-use Rattle.rack.specs.Placed.{Placed, imageCount}
-use Rattle.rack.specs.Refusal.{rackRefusal}
+use Rattle.rack.specs.Tree.{Tree, placeOf, imageCount}
 use Rattle.rack_laws.specs.Counts.{count-lt}
-use Rattle.rack_laws.specs.Sound.{nodes-le}
 
 -- whether a node stands in the image of the bridges, or of the devices
 abbrev of : (ℕ → Node) → Bool → ℕ → Bool
@@ -35,36 +31,25 @@ image-count : (t : Tree) (i : ℕ) (b : Bool) → isBridge (t .node i .kind) ≡
 image-count t i true e = rw e
 image-count t i false e = rw e
 
--- the place of each node of a tree is the one that the nodes before it leave it
-abbrev pub PlacedBy : Tree → Type 0
-PlacedBy t = (i : ℕ) → i < t .count → t .place i ≡ placeOf (t .node) i
+module _ (t : Tree) (by : (i : ℕ) → i < t .count → t .place i ≡ placeOf (t .node) i) where
+  place-is : (i : ℕ) (b : Bool) → i < t .count → isBridge (t .node i .kind) ≡ b → t .place i ≡ countOf (of (t .node) b) i
+  place-is i b h e = by i h ∙ place-count (t .node) i b e
 
--- then each node has a place of its own in its image
-pub by-placed : (t : Tree) → PlacedBy t → Placed t
-by-placed t by = record { below = below; apart = apart }
-  where
-    place-is : (i : ℕ) (b : Bool) → i < t .count → isBridge (t .node i .kind) ≡ b → t .place i ≡ countOf (of (t .node) b) i
-    place-is i b h e = by i h ∙ place-count (t .node) i b e
+  pub below : (i : ℕ) → i < t .count → t .place i < imageCount t (t .node i .kind)
+  below i h =
+      let b = isBridge (t .node i .kind) in
+      rw (place-is i b h refl, image-count t i b refl) (count-lt (of (t .node) b) i (t .count) h (of-own (t .node) i b refl))
 
-    below : (i : ℕ) → i < t .count → t .place i < imageCount t (t .node i .kind)
-    below i h =
-        let b = isBridge (t .node i .kind) in
-        rw (place-is i b h refl, image-count t i b refl) (count-lt (of (t .node) b) i (t .count) h (of-own (t .node) i b refl))
+  earlier : (i j : ℕ) → i < j → i < t .count → j < t .count → isBridge (t .node i .kind) ≡ isBridge (t .node j .kind)
+      → t .place i ≡ t .place j → ⊥
+  earlier i j l hi hj k e =
+      let b = isBridge (t .node i .kind) in
+      omega (arith, e, place-is i b hi refl, place-is j b hj (sym k), count-lt (of (t .node) b) i j l (of-own (t .node) i b refl))
 
-    earlier : (i j : ℕ) → i < j → i < t .count → j < t .count → isBridge (t .node i .kind) ≡ isBridge (t .node j .kind)
-        → t .place i ≡ t .place j → ⊥
-    earlier i j l hi hj k e =
-        let b = isBridge (t .node i .kind) in
-        omega (arith, e, place-is i b hi refl, place-is j b hj (sym k), count-lt (of (t .node) b) i j l (of-own (t .node) i b refl))
-
-    apart : (i j : ℕ) → i < t .count → j < t .count → isBridge (t .node i .kind) ≡ isBridge (t .node j .kind)
-        → t .place i ≡ t .place j → i ≡ j
-    apart i j hi hj k e =
-        tested (ltb i j) (λ l. absurd (earlier i j (ltb-true i j l) hi hj k e))
-        (λ l.
-        tested (ltb j i) (λ r. absurd (earlier j i (ltb-true j i r) hj hi (sym k) (sym e)))
-        (λ r. omega (arith, ltb-false i j l, ltb-false j i r)))
-
--- as each node of an accepted rack has
-pub accepted-placed : (rack : Rack) → rackRefusal (tree rack) ≡ 0 → Placed (tree rack)
-accepted-placed rack ok = by-placed (tree rack) (λ i h. rw (lt-ltb i 96 (omega (arith, nodes-le (tree rack) ok))))
+  pub apart : (i j : ℕ) → i < t .count → j < t .count → isBridge (t .node i .kind) ≡ isBridge (t .node j .kind)
+      → t .place i ≡ t .place j → i ≡ j
+  apart i j hi hj k e =
+      tested (ltb i j) (λ l. absurd (earlier i j (ltb-true i j l) hi hj k e))
+      (λ l.
+      tested (ltb j i) (λ r. absurd (earlier j i (ltb-true j i r) hj hi (sym k) (sym e)))
+      (λ r. omega (arith, ltb-false i j l, ltb-false j i r)))

@@ -6,38 +6,39 @@ use mathlib.Core.Logic.{_⊎_, inl, inr, ⊎-elim}
 use Prim.Native.Nat.{ℕ, _≤_, _<_}
 use native.Mathlib.Omega.{arith}
 use lib.Arith.{lt-of-le-ne}
-use lib.Dec.{ltb, eqb}
+use lib.Dec.{ltb, eqb, lit<}
 use borrow.Author.Tests.{eqb-true, eq-eqb, ltb-true, ltb-false, leb-false, not-false}
 use Rattle.rack.specs.Node.{isBridge}
 use Rattle.rack.specs.CountLaws.{count-both}
 use Rattle.rack.specs.Bools.{tested, opposite, either, both}
 use Rattle.rack.specs.Search.{none}
+use Rattle.rack.specs.FirstLaws.{when-not}
 use Rattle.rack.specs.Tree.{Tree, host, parentOf, bridgesBelow, devicesBelow, bridgeCount, deviceCount}
-use Rattle.rack.specs.Refusal.{tooMany, badParent, highDevice, sameSlot, takenDevice, badRegion, rackRefusal}
+use Rattle.rack.specs.Refusal.{tooMany, badParent, highDevice, sameSlot, takenDevice, badRegion, nodeFaults, nodeRefusal, rackRefusal}
 use Rattle.rack_laws.specs.Counts.{count-bound}
-use Rattle.rack_laws.specs.First.{numbered}
-use Rattle.rack_laws.specs.Refusals.{fault, accepted}
+use Rattle.rack_laws.specs.First.{at, list-none-given}
+use Rattle.rack_laws.specs.Refusals.{accepted}
 
 module _ (t : Tree) (ok : rackRefusal t ≡ 0) (i : ℕ) (h : i < t .count) where
+  -- no test holds at a node
+  tests-fail : (k : ℕ) → k < 5 → at (nodeFaults (t .node) i) k ≡ 0
+  unfolding nodeRefusal
+  tests-fail = list-none-given (nodeFaults (t .node) i) (accepted t ok i h)
+
   few : tooMany (t .node) i ≡ false
-  unfolding fault numbered
-  few = accepted t ok i h 6
+  few = when-not 6 _ (λ e. omega (arith, e)) (tests-fail 0 (lit< tt))
 
   right-parent : badParent (t .node) i ≡ false
-  unfolding fault numbered
-  right-parent = accepted t ok i h 7
+  right-parent = when-not 7 _ (λ e. omega (arith, e)) (tests-fail 1 (lit< tt))
 
   low : highDevice (t .node) i ≡ false
-  unfolding fault numbered
-  low = accepted t ok i h 8
+  low = when-not 8 _ (λ e. omega (arith, e)) (tests-fail 2 (lit< tt))
 
   free : takenDevice (t .node) i ≡ false
-  unfolding fault numbered
-  free = accepted t ok i h 9
+  free = when-not 9 _ (λ e. omega (arith, e)) (tests-fail 3 (lit< tt))
 
   pub in-range : badRegion (t .node) i ≡ false
-  unfolding fault numbered
-  in-range = accepted t ok i h 10
+  in-range = when-not 10 _ (λ e. omega (arith, e)) (tests-fail 4 (lit< tt))
 
   -- a device number is at most 15
   pub device-le : t .node i .device ≤ 15

@@ -6,11 +6,12 @@ use mathlib.Core.List.{List, [], _∷_}
 use lib.Dec.{ltb, eqb}
 use lib.ListN.{length}
 use Rattle.rack.specs.Node.{isBridge}
+use Rattle.rack.specs.First.{_when_, first}
 use Rattle.rack.specs.Tree.{Tree, host}
 use Rattle.rackfile.specs.declared.Event.{Event}
 use Rattle.rackfile.specs.declared.Event.the-variants.{Write, Read, Memory, Io, Check}
 use Rattle.rackfile.specs.Number.{byteIn, dwordIn, qwordIn}
-use Rattle.rackfile.specs.Record.{isEvent, sizeOf}
+use Rattle.rackfile.specs.Record.{sizeOf, classIn, isEvent}
 
 -- the kind and the values of an event's record
 abbrev pub eventKind : Event → ℕ
@@ -60,7 +61,6 @@ eventWrong t (Memory initiator direction address) = accessWrong t initiator dire
 eventWrong t (Io initiator direction address) = accessWrong t initiator direction
 eventWrong t Check = false
 
--- 01: 'The event to run is read next ..: no byte or no event kind is 2, any length but its own is 3'; 0 where neither
+-- 01: 'The event to run is read next ..: no byte or no event kind is 2, any length but its own is 3'; past the end there is no kind
 unfoldable pub eventBytes : List ℕ → ℕ
-eventBytes b =
-    cond (eqb (length b) 0) 2 (cond (isEvent (byteIn b 0)) (cond (eqb (length b) (sizeOf (byteIn b 0))) 0 3) 2)
+eventBytes b = first (2 when not (isEvent (classIn b 0)) ∷ 3 when not (eqb (length b) (sizeOf (byteIn b 0))) ∷ [])

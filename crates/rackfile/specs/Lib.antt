@@ -4,7 +4,7 @@ pub mod RecordLaws
 pub mod Events
 pub mod Load
 pub mod Loads
-pub mod LoadsLaws
+pub mod Steps
 pub mod Turns
-pub mod Cases
 pub mod LoadLaws
+pub mod LoadsLaws

@@ -1,96 +1,113 @@
--- The reading of a rack file: its rack and where its events begin, or the number and the offset of its first faulty record.
+-- The reading of rack records, one after another: a rack file, or the rack bytes of a C call.
 -- Assumes nothing: these are definitions.
 use Prim.Native.Nat.{ℕ, zero, suc, _+_}
-use mathlib.Core.Bool.{Bool, _&&_, _||_, cond}
-use mathlib.Core.List.{List}
+use mathlib.Core.Bool.{Bool, true, false, not, _&&_, cond}
+use mathlib.Core.List.{List, [], _∷_}
 use lib.Dec.{leb, ltb, eqb}
 use lib.ListN.{length}
+use Rattle.rack.specs.First.{_when_, _or_, first}
 use Rattle.rack.specs.Tree.{Tree}
 use Rattle.rack.specs.Grow.{noTree, nodesWith, grown}
 use Rattle.rack.specs.Refusal.{nodeRefusal}
-use Rattle.window.specs.declared.Range.{Range}
+use Rattle.rack.specs.declared.Range.{Range}
+use Rattle.rackfile.specs.declared.Class.{Class}
 use Rattle.rackfile.specs.Number.{byteIn}
-use Rattle.rackfile.specs.Record.{sizeOf, noKind, cutShort, isHost, isNode, isEvent, hostIn, nodeIn}
+use Rattle.rackfile.specs.Record.{sizeOf, classIn, isHost, isNode, isEvent, isRack, isKnown, cutShort, hostIn, nodeIn}
 use Rattle.rackfile.specs.Events.{eventIn, eventWrong}
 
--- a refusal and its offset; or 0, the rack and the offset at which its records end
+-- no host memory: 'first above last means none'
+abbrev pub noMemory : Range
+noMemory = record { first = 1; last = 0 }
+
+-- what is known in front of a record: its offset, the offset at which the events begin (0 before the first), and the rack
+pub record Reading : Type 0 where
+  pub offset : ℕ
+  pub events : ℕ
+  pub tree : Tree
+
+abbrev pub atStart : Reading
+atStart = record { offset = 0; events = 0; tree = noTree noMemory }
+
+-- 4: 'the first is not a host, or a later one is'
+abbrev pub hostWrong : Class → ℕ → Bool
+hostWrong c o = cond (eqb o 0) (not (isHost c)) (isHost c)
+
+-- 5: 'A rack record follows an event'
+abbrev pub followsEvent : Class → ℕ → Bool
+followsEvent c events = isRack c && not (eqb events 0)
+
+-- 2 to 5, of a record's kind, length and place; `known` are the classes that may be read
+abbrev pub shapeFaults : (Class → Bool) → List ℕ → Class → ℕ → ℕ → List ℕ
+shapeFaults known b c o events =
+    2 when not (known c) ∷ 3 when cutShort b o ∷ 4 when hostWrong c o ∷ 5 when followsEvent c events ∷ []
+
+unfoldable pub shapeFault : (Class → Bool) → List ℕ → Class → ℕ → ℕ → ℕ
+shapeFault known b c o events = first (shapeFaults known b c o events)
+
+-- 6 to 10, of a node behind those before it
+unfoldable pub nodeFault : List ℕ → ℕ → Tree → ℕ
+nodeFault b o t = nodeRefusal (nodesWith t (nodeIn b o)) (t .count)
+
+-- 13, of an event
+abbrev pub fieldFault : List ℕ → ℕ → Tree → ℕ
+fieldFault b o t = 13 when eventWrong t (eventIn b o)
+
+-- 01, 'Refused, in this order', of a record
+abbrev pub recordFaults : (Class → Bool) → List ℕ → Reading → List ℕ
+recordFaults known b s =
+    shapeFault known b (classIn b (s .offset)) (s .offset) (s .events)
+    ∷ nodeFault b (s .offset) (s .tree) when isNode (classIn b (s .offset))
+    ∷ fieldFault b (s .offset) (s .tree) when isEvent (classIn b (s .offset)) ∷ []
+
+-- the first number that applies, 0 where none does
+unfoldable pub recordFault : (Class → Bool) → List ℕ → Reading → ℕ
+recordFault known b s = first (recordFaults known b s)
+
+-- the record taken in
+unfoldable pub taken : List ℕ → Reading → Reading
+taken b s =
+    record {
+      offset = s .offset + sizeOf (byteIn b (s .offset));
+      events = cond (isEvent (classIn b (s .offset))) (s .events or s .offset) (s .events);
+      tree =
+          cond (isHost (classIn b (s .offset))) (noTree (hostIn b (s .offset)))
+          (cond (isNode (classIn b (s .offset))) (grown (s .tree) (nodeIn b (s .offset))) (s .tree));
+    }
+
+-- a refusal and its offset; or 0, the offset at which the events begin or, without events, the records end, and the rack
 pub record Loading : Type 0 where
   pub refusal : ℕ
   pub offset : ℕ
   pub tree : Tree
 
-abbrev pub loaded : Tree → ℕ → Loading
-loaded t o = record { refusal = 0; offset = o; tree = t }
+abbrev pub loaded : Reading → Loading
+loaded s = record { refusal = 0; offset = s .events or s .offset; tree = s .tree }
 
 abbrev pub refused : ℕ → ℕ → Loading
-refused n o = record { refusal = n; offset = o; tree = noTree }
+refused n o = record { refusal = n; offset = o; tree = noTree noMemory }
 
--- 01: 'A file stops at its first faulty record'; of several numbers the lowest. The first record: 2, 3, or 4 where it is no host
-unfoldable pub firstFault : List ℕ → ℕ
-firstFault b = cond (noKind b 0) 2 (cond (cutShort b 0) 3 (cond (isHost (byteIn b 0)) 0 4))
+-- 01: 'A file stops at its first faulty record, with the record's offset': at most `left` records
+unfoldable pub readFrom : ℕ → (Class → Bool) → List ℕ → Reading → Loading
+readFrom zero known b s = loaded s
+readFrom (suc left) known b s =
+    cond (leb (length b) (s .offset)) (loaded s)
+    (cond (eqb (recordFault known b s) 0) (readFrom left known b (taken b s)) (refused (recordFault known b s) (s .offset)))
 
--- a later record, whatever it holds: 2, 3, or 4 where it is another host
-unfoldable pub shapeFault : List ℕ → ℕ → ℕ
-shapeFault b o = cond (noKind b o) 2 (cond (cutShort b o) 3 (cond (isHost (byteIn b o)) 4 0))
-
--- a record of the rack: then 6 to 10 of its node
-unfoldable pub rackFault : List ℕ → ℕ → Tree → ℕ
-rackFault b o t =
-    cond (eqb (shapeFault b o) 0) (nodeRefusal (nodesWith t (nodeIn b o)) (t .count)) (shapeFault b o)
-
--- a record from the first event on: then 5 where it is a node, and 13
-unfoldable pub eventFault : List ℕ → ℕ → Tree → ℕ
-eventFault b o t =
-    cond (eqb (shapeFault b o) 0) (cond (isNode (byteIn b o)) 5 (cond (eventWrong t (eventIn b o)) 13 0)) (shapeFault b o)
-
--- where the rack's records end: at the file's end or at an event
-abbrev pub rackEnds : List ℕ → ℕ → Bool
-rackEnds b o = leb (length b) o || isEvent (byteIn b o)
-
--- the rack's records from an offset on, at most `left` of them
-unfoldable pub rackFrom : ℕ → List ℕ → ℕ → Tree → Loading
-rackFrom zero b o t = loaded t o
-rackFrom (suc left) b o t =
-    cond (rackEnds b o) (loaded t o)
-    (cond (eqb (rackFault b o t) 0) (rackFrom left b (o + sizeOf (byteIn b o)) (grown t (nodeIn b o))) (refused (rackFault b o t) o))
-
--- 1: 'The file is longer than 65,536 bytes', at 65,536; 4: 'There is no record', at 0. A record has at least one byte, so there
--- are no more of them than bytes
-unfoldable pub rackIn : List ℕ → Loading
-rackIn b =
+-- 1: 'The file is longer than 65,536 bytes', at 65,536; 4: 'There is no record', at 0. A record has at least one byte, so there are no
+-- more of them than bytes
+unfoldable pub readIn : (Class → Bool) → List ℕ → Loading
+readIn known b =
     cond (ltb 65536 (length b)) (refused 1 65536)
-    (cond (eqb (length b) 0) (refused 4 0)
-    (cond (eqb (firstFault b) 0) (rackFrom (length b) b (sizeOf 1) noTree) (refused (firstFault b) 0)))
+    (cond (eqb (length b) 0) (refused 4 0) (readFrom (length b) known b atStart))
 
--- 01: 'The two C calls take the rack records as bytes: 1 to 10 as for a file, an event kind there being 2': behind the host
-unfoldable pub rackLater : List ℕ → Loading
-rackLater b =
-    cond (eqb (rackIn b .refusal) 0)
-    (cond (ltb (rackIn b .offset) (length b)) (refused 2 (rackIn b .offset)) (rackIn b))
-    (rackIn b)
+-- a whole file
+abbrev pub fileIn : List ℕ → Loading
+fileIn b = readIn (isKnown true) b
 
--- and in the host's place, where a file would be given 3 or 4
-abbrev pub eventFirst : List ℕ → Bool
-eventFirst b = leb (length b) 65536 && isEvent (byteIn b 0)
+-- 01: 'The two C calls take the rack records as bytes: 1 to 10 as for a file, an event kind there being 2'
+abbrev pub rackAlone : List ℕ → Loading
+rackAlone b = readIn (isKnown false) b
 
-unfoldable pub rackAlone : List ℕ → Loading
-rackAlone b = cond (eventFirst b) (refused 2 0) (rackLater b)
-
--- the events from an offset on, at most `left` of them
-unfoldable pub eventsFrom : ℕ → List ℕ → ℕ → Tree → Loading
-eventsFrom zero b o t = loaded t o
-eventsFrom (suc left) b o t =
-    cond (leb (length b) o) (loaded t o)
-    (cond (eqb (eventFault b o t) 0) (eventsFrom left b (o + sizeOf (byteIn b o)) t) (refused (eventFault b o t) o))
-
--- a whole file: its refusal and offset; or 0, its rack and where its events begin
-unfoldable pub fileIn : List ℕ → Loading
-fileIn b =
-    cond (eqb (rackIn b .refusal) 0)
-    (cond (eqb (eventsFrom (length b) b (rackIn b .offset) (rackIn b .tree) .refusal) 0) (rackIn b)
-    (eventsFrom (length b) b (rackIn b .offset) (rackIn b .tree)))
-    (rackIn b)
-
--- host memory, from the first record
+-- host memory, from the first record (`read-host`)
 abbrev pub hostOf : List ℕ → Range
 hostOf b = hostIn b 0

@@ -1,140 +1,200 @@
--- A rack that is read is accepted, each of its nodes has a place of its own, its file has at most 65,536 bytes, and its events
--- begin within the file.
+-- A rack that is read is accepted and stores what its nodes say, its file has at most 65,536 bytes, its events begin within
+-- the file, and its host memory is the first record's.
 -- Assumes nothing.
-use mathlib.Core.Path.{_≡_, _∙_}
+use mathlib.Core.Path.{_≡_, refl}
+use mathlib.Core.Bool.{Bool, true, false}
 use mathlib.Core.List.{List}
-use Prim.Native.Nat.{ℕ, zero, suc, _+_, _≤_}
+use Prim.Native.Nat.{ℕ, _+_, _≤_, _<_}
 use native.Mathlib.Omega.{arith}
-use lib.Dec.{ltb, eqb}
+use lib.Dec.{ltb, eqb, lit<}
 use lib.ListN.{length}
-use borrow.Author.Tests.{ltb-true, ltb-false, eqb-true, eqb-false}
+use mathlib.Core.Logic.{_⊎_, inl, inr, ⊎-elim}
+use borrow.Author.Tests.{not-false, ltb-true, ltb-false, eqb-true, eqb-false, eq-eqb, ne-eqb}
 use Rattle.rack.specs.Bools.{tested}
-use Rattle.rack.specs.Tree.{Tree}
-use Rattle.rack.specs.Placed.{Placed}
-use Rattle.rack.specs.Grow.{noTree, grown}
+use Rattle.rack.specs.First.{_or_}
+use Rattle.rack.specs.Stored.{Stored}
+use Rattle.rack.specs.Grow.{grown}
 use Rattle.rack.specs.Refusal.{rackRefusal}
-use Rattle.rack_laws.specs.Places.{PlacedBy, by-placed}
-use Rattle.rack_laws.specs.Grown.{none-accepted, none-placed-by, grown-accepted, grown-placed}
+use Rattle.rack_laws.specs.First.{at, list-none-given}
+use Rattle.rack_laws.specs.Stored.{StoredBy, by-stored}
+use Rattle.rack_laws.specs.Grown.{none-accepted, grown-accepted, grown-stored}
+use Rattle.rackfile.specs.declared.Class.{Class}
 use Rattle.rackfile.specs.Number.{byteIn}
-use Rattle.rackfile.specs.Record.{sizeOf, nodeIn}
-use Rattle.rackfile.specs.Load.{firstFault, rackFault, rackEnds, rackFrom, rackIn, eventFirst, rackLater, rackAlone, fileIn}
-use Rattle.rackfile.specs.Turns.{shape-ends, rack-shape, rack-node, rack-past, rack-stop, rack-step}
-use Rattle.rackfile.specs.Cases.{refusal-same, rack-over, rack-empty, rack-first, rack-behind, host-inside, alone-first, alone-later, later-refused, later-event, later-rack, eventsIn, file-refused, file-event, file-rack}
+use Rattle.rackfile.specs.Record.{sizeOf, classIn, isHost, isNode, isEvent, isKnown, hostIn, nodeIn}
+use Rattle.rackfile.specs.RecordLaws.{host-size}
+use Rattle.rackfile.specs.Load.{noMemory, Reading, nodeFault, recordFaults, recordFault, taken, readIn, fileIn, rackAlone, hostOf}
+use Rattle.rackfile.specs.Steps.{shape-ends, shape-host}
+use Rattle.rackfile.specs.Turns.{read-over, read-empty, in-has}
 
--- what holds of a tree and an offset, and is kept by one record more without a fault, holds of what is read behind them
-module _ (b : List ℕ) (P : Tree → ℕ → Type 0)
-    (keeps : (t : Tree) (o : ℕ) → P t o → rackFault b o t ≡ 0 → P (grown t (nodeIn b o)) (o + sizeOf (byteIn b o))) where
-  from-keeps : (left o : ℕ) (t : Tree) → P t o → rackFrom left b o t .refusal ≡ 0 → P (rackFrom left b o t .tree) (rackFrom left b o t .offset)
-  unfolding rackFrom
-  from-keeps zero o t p z = p
-  from-keeps (suc left) o t p z =
-      tested (rackEnds b o) (λ q. rw (rack-past b (suc left) o t q) p)
+-- a record without a fault
+module _ (known : Class → Bool) (b : List ℕ) (s : Reading) where
+  none-applies : recordFault known b s ≡ 0 → (k : ℕ) → k < 3 → at (recordFaults known b s) k ≡ 0
+  unfolding recordFault
+  none-applies z = list-none-given (recordFaults known b s) z
+
+  fault-node : recordFault known b s ≡ 0 → isNode (classIn b (s .offset)) ≡ true → nodeFault b (s .offset) (s .tree) ≡ 0
+  fault-node z k = rw k at (none-applies z 1 (lit< tt))
+
+  -- ends within the file, and leaves an accepted rack
+  pub taken-inside : recordFault known b s ≡ 0 → taken b s .offset ≤ length b
+  unfolding taken
+  taken-inside z = shape-ends known b (classIn b (s .offset)) (s .offset) (s .events) (none-applies z 0 (lit< tt))
+
+  pub taken-accepted : rackRefusal (s .tree) ≡ 0 → recordFault known b s ≡ 0 → rackRefusal (taken b s .tree) ≡ 0
+  unfolding taken nodeFault
+  taken-accepted ok z =
+      tested (isHost (classIn b (s .offset))) (λ h. rw h (none-accepted (hostIn b (s .offset))))
+      (λ h.
+      tested (isNode (classIn b (s .offset))) (λ k. rw (h, k) (grown-accepted (s .tree) (nodeIn b (s .offset)) ok (fault-node z k)))
+      (λ k. rw (h, k) ok))
+
+  taken-stored : StoredBy (s .tree) → StoredBy (taken b s .tree)
+  unfolding taken
+  taken-stored p =
+      tested (isHost (classIn b (s .offset))) (λ h. rw h refl)
+      (λ h.
+      tested (isNode (classIn b (s .offset))) (λ k. rw (h, k) (grown-stored (s .tree) (nodeIn b (s .offset)) p)) (λ k. rw (h, k) p))
+
+  -- the first record is a host, and none behind it is
+  first-host : recordFault known b s ≡ 0 → s .offset ≡ 0 → isHost (classIn b (s .offset)) ≡ true
+  first-host z e =
+      let h = shape-host known b (classIn b (s .offset)) (s .offset) (s .events) (none-applies z 0 (lit< tt)) in
+      not-false (isHost (classIn b (s .offset))) (rw (eq-eqb (s .offset) 0 e) at h)
+
+  later-host : recordFault known b s ≡ 0 → (s .offset ≡ 0 → ⊥) → isHost (classIn b (s .offset)) ≡ false
+  later-host z e =
+      let h = shape-host known b (classIn b (s .offset)) (s .offset) (s .events) (none-applies z 0 (lit< tt)) in
+      rw (ne-eqb (s .offset) 0 e) at h
+
+  -- so behind it host memory is the first record's
+  taken-host : (0 < s .offset → s .tree .hostMemory ≡ hostOf b) → recordFault known b s ≡ 0
+      → taken b s .tree .hostMemory ≡ hostOf b
+  unfolding taken grown
+  taken-host p z =
+      tested (eqb (s .offset) 0)
+      (λ q. let e = eqb-true (s .offset) 0 q in rw (first-host z e, e))
       (λ q.
-      tested (eqb (rackFault b o t) 0)
-      (λ w.
-      let f : rackFault b o t ≡ 0 = eqb-true (rackFault b o t) 0 w in
-      let e = rack-step b left o t q f in
-      rw e (from-keeps left (o + sizeOf (byteIn b o)) (grown t (nodeIn b o)) (keeps t o p f) (refusal-same e z)))
-      (λ w.
-      let f : rackFault b o t ≡ 0 → ⊥ = eqb-false (rackFault b o t) 0 w in
-      absurd (f (refusal-same (rack-stop b left o t q f) z))))
+      let e = eqb-false (s .offset) 0 q in
+      let h = p (omega (arith, e)) in
+      tested (isNode (classIn b (s .offset))) (λ k. rw (later-host z e, k) h) (λ k. rw (later-host z e, k) h))
 
-module _ (b : List ℕ) where
-  -- a file that is read is not too long
-  pub rack-long : rackIn b .refusal ≡ 0 → length b ≤ 65536
-  rack-long z =
+  -- and the next record begins at 17 or later
+  taken-behind : (s .offset ≡ 0) ⊎ (17 ≤ s .offset) → recordFault known b s ≡ 0 → 17 ≤ taken b s .offset
+  unfolding taken
+  taken-behind p z =
+      ⊎-elim (λ e. omega (arith, host-size (byteIn b (s .offset)) (first-host z e))) (λ h. omega arith) p
+
+-- a reading within the file: the first record begins at 0, all others and the events behind the host
+record Within (b : List ℕ) (s : Reading) : Type 0 where
+  inside : s .offset ≤ length b
+  here : (s .offset ≡ 0) ⊎ (17 ≤ s .offset)
+  events : (s .events ≡ 0) ⊎ ((17 ≤ s .events) × (s .events ≤ s .offset))
+
+module _ (known : Class → Bool) (b : List ℕ) (s : Reading) (p : Within b s) (z : recordFault known b s ≡ 0) where
+  events-within : (taken b s .events ≡ 0) ⊎ ((17 ≤ taken b s .events) × (taken b s .events ≤ taken b s .offset))
+  unfolding taken
+  events-within =
+      ⊎-elim
+      (λ e.
+      tested (isEvent (classIn b (s .offset)))
+      (λ k. rw (k, eq-eqb (s .events) 0 e) (⊎-elim (λ o. inl o) (λ o. inr (o, omega arith)) (p .here)))
+      (λ k. rw k (inl e)))
+      (λ e.
+      let n : s .events ≡ 0 → ⊥ = λ q. omega (arith, e .0) in
+      let l : s .events ≤ s .offset + sizeOf (byteIn b (s .offset)) = omega (arith, e .1) in
+      tested (isEvent (classIn b (s .offset))) (λ k. rw (k, ne-eqb (s .events) 0 n) (inr (e .0, l))) (λ k. rw k (inr (e .0, l))))
+      (p .events)
+
+  taken-within : Within b (taken b s)
+  taken-within =
+      record { inside = taken-inside known b s z; here = inr (taken-behind known b s (p .here) z); events = events-within }
+
+module _ (known : Class → Bool) (b : List ℕ) where
+  pub read-accepted : readIn known b .refusal ≡ 0 → rackRefusal (readIn known b .tree) ≡ 0
+  read-accepted =
+      in-has known b (λ s. rackRefusal (s .tree) ≡ 0) (λ d. d .refusal ≡ 0 → rackRefusal (d .tree) ≡ 0)
+      (λ s p i z. taken-accepted known b s p z) (λ s p e q. p) (λ s p i z q. absurd (z q))
+      (λ h e. none-accepted noMemory) (λ h q. none-accepted noMemory) (λ e q. none-accepted noMemory)
+
+  pub read-stored : readIn known b .refusal ≡ 0 → Stored (readIn known b .tree)
+  read-stored z = by-stored (readIn known b .tree) (stored z) (read-accepted z)
+    where
+      stored : readIn known b .refusal ≡ 0 → StoredBy (readIn known b .tree)
+      stored =
+          in-has known b (λ s. StoredBy (s .tree)) (λ d. d .refusal ≡ 0 → StoredBy (d .tree))
+          (λ s p i z. taken-stored known b s p) (λ s p e q. p) (λ s p i z q. absurd (z q))
+          (λ h e. refl) (λ h q. refl) (λ e q. refl)
+
+  -- a file that is read has 1 to 65,536 bytes
+  pub read-long : readIn known b .refusal ≡ 0 → length b ≤ 65536
+  read-long z =
       tested (ltb 65536 (length b))
       (λ q.
-      let e : _≡_ {A = ℕ} 1 0 = refusal-same (rack-over b (ltb-true 65536 (length b) q)) z in
+      let e : _≡_ {A = ℕ} 1 0 = rw (read-over known b (ltb-true 65536 (length b) q)) at z in
       absurd (omega arith))
       (λ q. ltb-false 65536 (length b) q)
 
-  -- a rack that is read has a host record, and what stands behind it
-  rack-some : rackIn b .refusal ≡ 0 → length b ≡ 0 → ⊥
-  rack-some z h = let e : _≡_ {A = ℕ} 4 0 = refusal-same (rack-empty b h) z in omega arith
-
-  rack-host : rackIn b .refusal ≡ 0 → firstFault b ≡ 0
-  rack-host z =
-      tested (eqb (firstFault b) 0) (λ q. eqb-true (firstFault b) 0 q)
-      (λ q.
-      let f : firstFault b ≡ 0 → ⊥ = eqb-false (firstFault b) 0 q in
-      absurd (f (refusal-same (rack-first b (rack-long z) (rack-some z) f) z)))
-
-  rack-is : rackIn b .refusal ≡ 0 → rackIn b ≡ rackFrom (length b) b 17 noTree
-  rack-is z = rack-behind b (rack-long z) (rack-some z) (rack-host z)
-
-  rack-keeps : (P : Tree → ℕ → Type 0)
-      → ((t : Tree) (o : ℕ) → P t o → rackFault b o t ≡ 0 → P (grown t (nodeIn b o)) (o + sizeOf (byteIn b o)))
-      → P noTree 17 → rackIn b .refusal ≡ 0 → P (rackIn b .tree) (rackIn b .offset)
-  rack-keeps P keeps p z =
-      let e = rack-is z in
-      rw e (from-keeps b P keeps (length b) 17 noTree p (refusal-same e z))
-
-  pub rack-accepted : rackIn b .refusal ≡ 0 → rackRefusal (rackIn b .tree) ≡ 0
-  rack-accepted z =
-      rack-keeps (λ t o. rackRefusal t ≡ 0) (λ t o a f. grown-accepted t (nodeIn b o) a (rack-node b o t f)) none-accepted z
-
-  pub rack-placed : rackIn b .refusal ≡ 0 → Placed (rackIn b .tree)
-  rack-placed z =
-      by-placed (rackIn b .tree) (rack-keeps (λ t o. PlacedBy t) (λ t o p f. grown-placed t (nodeIn b o) p) none-placed-by z)
+  pub read-some : readIn known b .refusal ≡ 0 → length b ≡ 0 → ⊥
+  read-some z h = let e : _≡_ {A = ℕ} 4 0 = rw (read-empty known b h) at z in omega arith
 
   -- its events begin behind the host, within the file
-  pub rack-within : rackIn b .refusal ≡ 0 → (17 ≤ rackIn b .offset) × (rackIn b .offset ≤ length b)
-  rack-within z =
-      rack-keeps (λ t o. (17 ≤ o) × (o ≤ length b))
-      (λ t o i f. (omega (arith, i .0), shape-ends b o (rack-shape b o t f))) (omega arith, host-inside b (rack-host z)) z
-
-  -- a rack without events is the file's rack, and so is the rack of a whole file
-  later-is : rackLater b .refusal ≡ 0 → (rackIn b .refusal ≡ 0) × (rackLater b ≡ rackIn b)
-  later-is z =
-      tested (eqb (rackIn b .refusal) 0)
-      (λ q.
-      let r : rackIn b .refusal ≡ 0 = eqb-true (rackIn b .refusal) 0 q in
-      tested (ltb (rackIn b .offset) (length b))
-      (λ w. absurd (two (refusal-same (later-event b r (ltb-true (rackIn b .offset) (length b) w)) z)))
-      (λ w. (r, later-rack b r (ltb-false (rackIn b .offset) (length b) w))))
-      (λ q.
-      let e = later-refused b (eqb-false (rackIn b .refusal) 0 q) in
-      (refusal-same e z, e))
+  pub read-within : readIn known b .refusal ≡ 0 → (17 ≤ readIn known b .offset) × (readIn known b .offset ≤ length b)
+  read-within z =
+      in-has known b (λ s. Within b s × (length b ≡ 0 → ⊥))
+      (λ d. (length b ≡ 0 → ⊥) → d .refusal ≡ 0 → (17 ≤ d .offset) × (d .offset ≤ length b))
+      (λ s p i f. (taken-within known b s (p .0) f, p .1)) (λ s p e n q. ended s (p .0) e (p .1)) (λ s p i f n q. absurd (f q))
+      (λ h e. (record { inside = omega arith; here = inl refl; events = inl refl }, e)) (λ h n q. absurd (omega (arith, q)))
+      (λ e n. absurd (n e)) (read-some z) z
     where
-      two : _≡_ {A = ℕ} 2 0 → ⊥
-      two e = omega arith
+      ended : (s : Reading) → Within b s → length b ≤ s .offset → (length b ≡ 0 → ⊥)
+          → (17 ≤ s .events or s .offset) × (s .events or s .offset ≤ length b)
+      ended s p e n =
+          ⊎-elim
+          (λ o.
+          rw (eq-eqb (s .events) 0 o) (⊎-elim (λ q. absurd (n (omega arith))) (λ q. q) (p .here), p .inside))
+          (λ o. rw (ne-eqb (s .events) 0 (λ q. omega (arith, o .0))) (o .0, omega (arith, o .1, p .inside)))
+          (p .events)
 
-  pub alone-is : rackAlone b .refusal ≡ 0 → (rackIn b .refusal ≡ 0) × (rackAlone b ≡ rackIn b)
-  alone-is z =
-      tested (eventFirst b) (λ q. let n : _≡_ {A = ℕ} 2 0 = refusal-same (alone-first b q) z in absurd (omega arith))
-      (λ q.
-      let e = alone-later b q in
-      let l = later-is (refusal-same e z) in
-      (l .0, e ∙ l .1))
+  -- and a refusal stands within the longest file
+  pub read-offset : readIn known b .offset ≤ 65536
+  read-offset =
+      in-has known b (λ s. Within b s × (length b ≤ 65536)) (λ d. d .offset ≤ 65536)
+      (λ s p i f. (taken-within known b s (p .0) f, p .1)) (λ s p e. ended s (p .0) (p .1)) (λ s p i f. omega (arith, p .1))
+      (λ h e. (record { inside = omega arith; here = inl refl; events = inl refl }, h)) (λ h. omega arith) (λ e. omega arith)
+    where
+      ended : (s : Reading) → Within b s → length b ≤ 65536 → s .events or s .offset ≤ 65536
+      ended s p h =
+          ⊎-elim (λ o. rw (eq-eqb (s .events) 0 o) (omega (arith, p .inside)))
+          (λ o. rw (ne-eqb (s .events) 0 (λ q. omega (arith, o .0))) (omega (arith, o .1, p .inside))) (p .events)
 
-  pub file-is : fileIn b .refusal ≡ 0 → (rackIn b .refusal ≡ 0) × (fileIn b ≡ rackIn b)
-  file-is z =
-      tested (eqb (rackIn b .refusal) 0)
-      (λ q.
-      let r : rackIn b .refusal ≡ 0 = eqb-true (rackIn b .refusal) 0 q in
-      tested (eqb (eventsIn b .refusal) 0) (λ w. (r, file-rack b r (eqb-true (eventsIn b .refusal) 0 w)))
-      (λ w.
-      let f : eventsIn b .refusal ≡ 0 → ⊥ = eqb-false (eventsIn b .refusal) 0 w in
-      absurd (f (refusal-same (file-event b r f) z))))
-      (λ q.
-      let e = file-refused b (eqb-false (rackIn b .refusal) 0 q) in
-      (refusal-same e z, e))
+  -- its host memory is the first record's
+  pub read-host : readIn known b .refusal ≡ 0 → readIn known b .tree .hostMemory ≡ hostOf b
+  read-host z =
+      in-has known b (λ s. (0 < s .offset → s .tree .hostMemory ≡ hostOf b) × (length b ≡ 0 → ⊥))
+      (λ d. (length b ≡ 0 → ⊥) → d .refusal ≡ 0 → d .tree .hostMemory ≡ hostOf b)
+      (λ s p i f. (λ h. taken-host known b s (p .0) f, p .1)) (λ s p e n q. p .0 (omega (arith, n))) (λ s p i f n q. absurd (f q))
+      (λ h e. (λ q. absurd (omega arith), e)) (λ h n q. absurd (omega (arith, q))) (λ e n. absurd (n e)) (read-some z) z
 
+-- the same of a whole file, and of the rack bytes of a C call
+module _ (b : List ℕ) where
   pub alone-accepted : rackAlone b .refusal ≡ 0 → rackRefusal (rackAlone b .tree) ≡ 0
-  alone-accepted z = let e = alone-is z in rw (e .1) (rack-accepted (e .0))
+  alone-accepted = read-accepted (isKnown false) b
 
-  pub alone-placed : rackAlone b .refusal ≡ 0 → Placed (rackAlone b .tree)
-  alone-placed z = let e = alone-is z in rw (e .1) (rack-placed (e .0))
+  pub alone-stored : rackAlone b .refusal ≡ 0 → Stored (rackAlone b .tree)
+  alone-stored = read-stored (isKnown false) b
 
   pub file-accepted : fileIn b .refusal ≡ 0 → rackRefusal (fileIn b .tree) ≡ 0
-  file-accepted z = let e = file-is z in rw (e .1) (rack-accepted (e .0))
+  file-accepted = read-accepted (isKnown true) b
 
-  pub file-placed : fileIn b .refusal ≡ 0 → Placed (fileIn b .tree)
-  file-placed z = let e = file-is z in rw (e .1) (rack-placed (e .0))
+  pub file-stored : fileIn b .refusal ≡ 0 → Stored (fileIn b .tree)
+  file-stored = read-stored (isKnown true) b
 
   pub alone-long : rackAlone b .refusal ≡ 0 → length b ≤ 65536
-  alone-long z = rack-long (alone-is z .0)
+  alone-long = read-long (isKnown false) b
 
   pub file-long : fileIn b .refusal ≡ 0 → length b ≤ 65536
-  file-long z = rack-long (file-is z .0)
+  file-long = read-long (isKnown true) b
+
+  -- the offset of a refusal, and the offset at which an accepted file's events begin
+  pub file-offset : fileIn b .offset ≤ 65536
+  file-offset = read-offset (isKnown true) b

@@ -1,18 +1,24 @@
 -- What a function that reads has of a reading.
 -- Assumes nothing: these are definitions.
 use mathlib.Core.Path.{_≡_}
+use Prim.Native.Nat.{ℕ}
+use mathlib.Core.List.{List}
 use Rattle.rack.specs.Table.{treeOf}
 use Rattle.rackfile.specs.declared.Loaded.{Loaded}
-use Rattle.rackfile.specs.declared.Fault.{Fault}
-use Rattle.rackfile.specs.Load.{Loading}
+use Rattle.rackfile.specs.declared.Walk.{Walk}
+use Rattle.rackfile.specs.Load.{Reading, Loading}
+
+-- the reading that a walk has come to, with the table of its rack
+abbrev pub readingOf : Walk → List ℕ → Reading
+readingOf w table = record { offset = w .offset; events = w .events; tree = treeOf table }
+
+-- a step past a record: its fault; where there is none, the reading behind it
+pub record Steps (r : Walk) (table : List ℕ) (fault : ℕ) (next : Reading) : Type 0 where
+  pub refusal : r .refusal ≡ fault
+  pub reading : fault ≡ 0 → readingOf r table ≡ next
 
 -- the refusal and the offset; where there is no refusal, a table that holds the rack
 pub record Loads (r : Loaded) (d : Loading) : Type 0 where
   pub refusal : r .refusal ≡ d .refusal
   pub offset : r .offset ≡ d .offset
-  pub tree : d .refusal ≡ 0 → treeOf (r .count) (r .words) ≡ d .tree
-
--- the refusal and the offset alone
-pub record Faults (r : Fault) (d : Loading) : Type 0 where
-  pub refusal : r .refusal ≡ d .refusal
-  pub offset : r .offset ≡ d .offset
+  pub tree : d .refusal ≡ 0 → treeOf (r .table) ≡ d .tree

@@ -1,30 +1,42 @@
 -- How long a record is: at least its byte of kind, at most 17 bytes.
 -- Assumes nothing.
-use mathlib.Core.Path.{_≡_, refl, ap}
-use Prim.Native.Nat.{ℕ, _+_, _≤_}
+use mathlib.Core.Path.{_≡_, refl, sym}
+use mathlib.Core.Bool.{Bool, true, not, _&&_, _||_}
+use mathlib.Core.List.{List, [], _∷_}
+use Prim.Native.Nat.{ℕ, zero, suc, _≤_}
 use native.Mathlib.Omega.{arith}
-use lib.Dec.{leb, ltb}
+use lib.Dec.{leb, eqb}
 use lib.ListN.{getD, List·getD-eq-default}
-use borrow.Author.Tests.{leb-true, ltb-true, ltb-false}
-use Rattle.rack.specs.Bools.{tested}
-use Rattle.header.specs.Every.{at}
-use Rattle.rackfile.specs.Record.{bodies, sizeOf}
+use borrow.Author.Tests.{leb-true, eqb-true}
+use Rattle.rack.specs.Bools.{both}
+use Rattle.rackfile.specs.Record.{Form, noForm, forms, formOf, sizeOf, isHost}
 
--- a kind past 8 has no body
-pub no-body : (kind : ℕ) → 9 ≤ kind → getD bodies kind 0 ≡ 0
-no-body kind h = List·getD-eq-default bodies 0 h
+-- a kind past 8 has no form
+pub no-form : (kind : ℕ) → 9 ≤ kind → noForm ≡ formOf kind
+unfolding formOf
+no-form kind h = sym (List·getD-eq-default forms noForm h)
 
-pub body-most : (kind : ℕ) → getD bodies kind 0 ≤ 16
-body-most kind =
-    tested (ltb kind 9)
-    (λ q. leb-true (getD bodies kind 0) 16 (at (λ k x. leb x 16) bodies refl kind (ltb-true kind 9 q)))
-    (λ q. omega (arith, no-body kind (ltb-false kind 9 q)))
+-- a test that passes at each form of the table, and at none, passes at each kind's
+every : (Form → Bool) → List Form → Bool
+every f [] = true
+every f (x ∷ xs) = f x && every f xs
+
+every-at : (f : Form → Bool) (xs : List Form) (k : ℕ) → f noForm ≡ true → every f xs ≡ true → f (getD xs k noForm) ≡ true
+unfolding every
+every-at f [] k n e = n
+every-at f (x ∷ xs) zero n e = both (f x) (every f xs) e .0
+every-at f (x ∷ xs) (suc k) n e = every-at f xs k n (both (f x) (every f xs) e .1)
+
+pub body-most : (kind : ℕ) → formOf kind .body ≤ 16
+unfolding formOf every
+body-most kind = leb-true (formOf kind .body) 16 (every-at (λ x. leb (x .body) 16) forms kind refl refl)
+
+-- a host has 17 bytes
+pub host-size : (kind : ℕ) → isHost (formOf kind .class) ≡ true → sizeOf kind ≡ 17
+unfolding formOf every
+host-size kind h =
+    let e = every-at (λ x. not (isHost (x .class)) || eqb (x .body) 16) forms kind refl refl in
+    omega (arith, eqb-true (formOf kind .body) 16 (rw h at e))
 
 pub size-least : (kind : ℕ) → 1 ≤ sizeOf kind
-unfolding sizeOf
 size-least kind = omega arith
-
--- a kind past 8 stands for itself alone
-pub size-none : (kind : ℕ) → 9 ≤ kind → sizeOf kind ≡ 1
-unfolding sizeOf
-size-none kind h = ap (λ (k : ℕ). k + 1) (no-body kind h)

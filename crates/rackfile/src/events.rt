@@ -1,15 +1,23 @@
 // An event from its record, and refusal 13.
 ghost use mathlib.Core.Path.{_≡_};
 ghost use Prim.Native.Nat.{_≤_};
+ghost use mathlib.Core.Bool.{not};
+ghost use lib.Dec.{eqb};
+ghost use lib.ListN.{length};
 ghost use Rattle.rack.specs.Table.{treeOf};
+ghost use Rattle.rackfile.specs.Number.{byteIn};
+ghost use Rattle.rackfile.specs.Record.{sizeOf, classIn, isEvent};
 ghost use Rattle.rackfile.specs.Events.{eventIn, initiates, registerWrong, writeWrong, accessWrong, eventWrong, eventBytes};
 use crate::Event;
 use crate::number::dword_in;
 use crate::number::qword_in;
+use crate::record::class_in;
 use crate::record::is_event;
 use crate::record::size_of;
 use header::register::byte_at;
-use rack::table::node_at;
+use rack::table::Table;
+use rack::table::count_of;
+use rack::table::is_bridge_at;
 
 // The event whose record stands at an offset.
 pub fn event_in(file: &[u8], o: usize) -> Event
@@ -54,19 +62,18 @@ pub fn event_in(file: &[u8], o: usize) -> Event
 }
 
 // Whether a number names the host or a device.
-fn initiates_at(words: &[u64; 192], count: u8, i: u8) -> bool
-    ensures { λ r. ⌜ r ≡ initiates (treeOf count (now (words .entry))) i ⌝ }
+fn initiates_at(table: &Table, i: u8) -> bool
+    ensures { λ r. ⌜ r ≡ initiates (treeOf (now (table .entry))) i ⌝ }
 {
-    let n = node_at(words, i as usize);
-    let kind = n.kind;
-    let bridge = rack::is_bridge(kind);
+    let count = count_of(table);
+    let bridge = is_bridge_at(table, i);
     (i == 255) | ((i < count) & !bridge)
 }
 
-fn access_wrong(words: &[u64; 192], count: u8, initiator: u8, direction: u8) -> bool
-    ensures { λ r. ⌜ r ≡ accessWrong (treeOf count (now (words .entry))) initiator direction ⌝ }
+fn access_wrong(table: &Table, initiator: u8, direction: u8) -> bool
+    ensures { λ r. ⌜ r ≡ accessWrong (treeOf (now (table .entry))) initiator direction ⌝ }
 {
-    let is = initiates_at(words, count, initiator);
+    let is = initiates_at(table, initiator);
     (1 < direction) | !is
 }
 
@@ -83,8 +90,8 @@ fn write_wrong(register: u8, enables: u8) -> bool
 }
 
 // 13, of an event.
-pub fn event_wrong(words: &[u64; 192], count: u8, e: Event) -> bool
-    ensures { λ r. ⌜ r ≡ eventWrong (treeOf count (now (words .entry))) e ⌝ }
+pub fn event_wrong(table: &Table, e: Event) -> bool
+    ensures { λ r. ⌜ r ≡ eventWrong (treeOf (now (table .entry))) e ⌝ }
 {
     match e {
         Event::Write {
@@ -103,29 +110,39 @@ pub fn event_wrong(words: &[u64; 192], count: u8, e: Event) -> bool
             initiator,
             direction,
             address,
-        } => access_wrong(words, count, initiator, direction),
+        } => access_wrong(table, initiator, direction),
         Event::Io {
             initiator,
             direction,
             address,
-        } => access_wrong(words, count, initiator, direction),
+        } => access_wrong(table, initiator, direction),
         Event::Check => false,
     }
+}
+
+fn no_event(bytes: &[u8]) -> bool
+    ensures { λ r. ⌜ r ≡ not (isEvent (classIn (now (bytes .entry)) 0)) ⌝ }
+{
+    let class = class_in(bytes, 0);
+    !is_event(class)
+}
+
+fn other_length(bytes: &[u8]) -> bool
+    ensures { λ r. ⌜ r ≡ not (eqb (length (now (bytes .entry))) (sizeOf (byteIn (now (bytes .entry)) 0))) ⌝ }
+{
+    let size = size_of(byte_at(bytes, 0));
+    !(bytes.len() == size)
 }
 
 // The refusal of the bytes of one event, 2 or 3; 0 where there is none.
 pub fn event_bytes(bytes: &[u8]) -> u8
     ensures { λ r. ⌜ r ≡ eventBytes (now (bytes .entry)) ⌝ }
 {
-    if bytes.len() == 0 {
+    if no_event(bytes) {
         return 2;
     }
-    let kind = byte_at(bytes, 0);
-    if is_event(kind) {
-        if bytes.len() == size_of(kind) {
-            return 0;
-        }
+    if other_length(bytes) {
         return 3;
     }
-    2
+    0
 }

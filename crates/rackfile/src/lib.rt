@@ -1,5 +1,7 @@
 // Rack files: records from bytes, and events one at a time. `loading` walks a file up to its first faulty record.
 
+use rack::table::Table;
+
 pub mod events;
 pub mod number;
 pub mod record;
@@ -31,16 +33,25 @@ pub enum Event {
     Check,
 }
 
-// What was read: a refusal and its offset; or 0, the table of the rack and the offset at which its records end.
+// What the records of a kind are. Unknown comes first: the library reads an element past an array's end as the first variant.
+pub enum Class {
+    Unknown,
+    Host,
+    Node,
+    Event,
+}
+
+// What is known in front of a record, beside the table of the rack: the record's offset and where the events begin (0 before the
+// first). Or the refusal of the record before it, which is not 0.
+pub struct Walk {
+    pub refusal: u8,
+    pub offset: usize,
+    pub events: usize,
+}
+
+// What was read: a refusal and its offset; or 0, the offset at which the events begin and the table of the rack.
 pub struct Loaded {
     pub refusal: u8,
     pub offset: usize,
-    pub count: u8,
-    pub words: [u64; 192],
-}
-
-// The first faulty record from an offset on, 0 where there is none.
-pub struct Fault {
-    pub refusal: u8,
-    pub offset: usize,
+    pub table: Table,
 }

@@ -1,16 +1,47 @@
-// The kinds and lengths of records; the host's memory and a node from their records.
+// The forms of records; the host's memory and a node from their records.
 ghost use mathlib.Core.Path.{_≡_};
+ghost use mathlib.Core.Bool.{not};
 ghost use Prim.Native.Nat.{_≤_, _<_};
-ghost use Rattle.rackfile.specs.Record.{sizeOf, noKind, cutShort, isHost, isNode, isEvent, hostIn, regionAt, nodeIn};
+ghost use Rattle.rackfile.specs.Record.{formOf, sizeOf, classIn, isHost, isNode, isEvent, isRack, isKnown, cutShort, hostIn, regionAt, nodeIn};
+use crate::Class;
 use crate::number::qword_in;
 use crate::number::word_in;
 use header::register::byte_at;
 use rack::Kind;
 use rack::Node;
+use rack::Range;
 use rack::Region;
-use window::Range;
+
+// The class of each kind, and the length of its body.
+const CLASSES: [Class; 9] = [
+    Class::Unknown,
+    Class::Host,
+    Class::Node,
+    Class::Node,
+    Class::Event,
+    Class::Event,
+    Class::Event,
+    Class::Event,
+    Class::Event,
+];
 
 const BODIES: [u8; 9] = [0, 16, 6, 12, 8, 3, 10, 6, 0];
+
+fn class_of(kind: u8) -> Class
+    ensures { λ r. ⌜ r ≡ formOf kind .class ⌝ }
+{
+    let at = kind as usize;
+    if at < 9 {
+        return CLASSES[at];
+    }
+    Class::Unknown
+}
+
+pub fn class_in(file: &[u8], o: usize) -> Class
+    ensures { λ r. ⌜ r ≡ classIn (now (file .entry)) o ⌝ }
+{
+    class_of(byte_at(file, o))
+}
 
 // A record's bytes, its kind too.
 pub fn size_of(kind: u8) -> usize
@@ -23,30 +54,53 @@ pub fn size_of(kind: u8) -> usize
     1
 }
 
-pub fn is_host(kind: u8) -> bool
-    ensures { λ r. ⌜ r ≡ isHost kind ⌝ }
+pub fn is_host(c: Class) -> bool
+    ensures { λ r. ⌜ r ≡ isHost c ⌝ }
 {
-    kind == 1
+    match c {
+        Class::Unknown => false,
+        Class::Host => true,
+        Class::Node => false,
+        Class::Event => false,
+    }
 }
 
-pub fn is_node(kind: u8) -> bool
-    ensures { λ r. ⌜ r ≡ isNode kind ⌝ }
+pub fn is_node(c: Class) -> bool
+    ensures { λ r. ⌜ r ≡ isNode c ⌝ }
 {
-    (kind == 2) | (kind == 3)
+    match c {
+        Class::Unknown => false,
+        Class::Host => false,
+        Class::Node => true,
+        Class::Event => false,
+    }
 }
 
-pub fn is_event(kind: u8) -> bool
-    ensures { λ r. ⌜ r ≡ isEvent kind ⌝ }
+pub fn is_event(c: Class) -> bool
+    ensures { λ r. ⌜ r ≡ isEvent c ⌝ }
 {
-    (4 <= kind) & (kind <= 8)
+    match c {
+        Class::Unknown => false,
+        Class::Host => false,
+        Class::Node => false,
+        Class::Event => true,
+    }
+}
+
+pub fn is_rack(c: Class) -> bool
+    ensures { λ r. ⌜ r ≡ isRack c ⌝ }
+{
+    let host = is_host(c);
+    host | is_node(c)
 }
 
 // 2
-pub fn no_kind(file: &[u8], o: usize) -> bool
-    ensures { λ r. ⌜ r ≡ noKind (now (file .entry)) o ⌝ }
+pub fn no_kind(events: bool, c: Class) -> bool
+    ensures { λ r. ⌜ r ≡ not (isKnown events c) ⌝ }
 {
-    let kind = byte_at(file, o);
-    (kind == 0) | (8 < kind)
+    let rack = is_rack(c);
+    let event = is_event(c);
+    !(rack | (events & event))
 }
 
 // 3

@@ -1,5 +1,2 @@
 pub mod Records
-pub mod RecordFaults
-pub mod Walks
 pub mod Refused
-pub mod Offsets

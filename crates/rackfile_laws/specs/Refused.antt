@@ -1,159 +1,154 @@
--- The refusal of a file: number n is given, with the record's offset, exactly where predicate n holds at the first faulty record and
--- no lower one holds there; a file is accepted exactly where none holds at any record. The rack records of a call likewise, an event
--- kind there being 2.
+-- The refusal of a file: number n is given, with the record's offset, exactly where it is the first that applies at the first faulty
+-- record; a file is accepted exactly where none applies at any record. The rack bytes of a call likewise, an event kind there being 2.
 -- Assumes nothing.
 use mathlib.Core.Path.{_≡_, refl, sym, ap, _∙_}
-use mathlib.Core.Bool.{false, true≢false}
+use mathlib.Core.Bool.{Bool, true, false}
 use mathlib.Core.List.{List, [], _∷_}
-use Prim.Native.Nat.{ℕ, zero, suc, _≤_, _<_}
+use Prim.Native.Nat.{ℕ, zero, suc, _+_, _-_, _≤_, _<_}
 use native.Mathlib.Omega.{arith}
 use lib.Dec.{ltb, eqb}
 use lib.ListN.{length}
-use borrow.Author.Tests.{lt-leb, le-leb, ltb-true, ltb-false, eqb-true, eqb-false}
+use borrow.Author.Tests.{ltb-true, ltb-false, eqb-true, eqb-false}
 use Rattle.rack.specs.Bools.{tested}
-use Rattle.rack_laws.specs.First.{numbered}
-use Rattle.rackfile.specs.Number.{byteIn}
-use Rattle.rackfile.specs.Record.{isEvent}
-use Rattle.rackfile.specs.Load.{Loading, refused, eventFirst, rackAlone, fileIn}
-use Rattle.rackfile.specs.Cases.{refusal-same, rack-over, rack-empty, alone-later, later-refused, file-refused}
-use Rattle.rackfile.specs.LoadLaws.{file-long, alone-long}
-use Rattle.rackfile_laws.specs.Records.{recordAt, recordFault, FirstFaulty, Faultless}
-use Rattle.rackfile_laws.specs.RecordFaults.{recordRefusal, record-holds, record-none, record-lowest, record-only}
-use Rattle.rackfile_laws.specs.Walks.{Walk, FileEnd, file-walk, alone-walk}
+use Rattle.rack.specs.First.{_when_, first}
+use Rattle.rack.specs.Grow.{nodesWith}
+use Rattle.rack.specs.Refusal.{nodeFaults, nodeRefusal}
+use Rattle.rack_laws.specs.First.{same-place, same-number}
+use Rattle.rackfile.specs.declared.Class.{Class}
+use Rattle.rackfile.specs.Record.{classIn, isNode, isEvent, nodeIn}
+use Rattle.rackfile.specs.Load.{Reading, atStart, shapeFaults, shapeFault, nodeFault, recordFaults, recordFault, taken, Loading, readIn}
+use Rattle.rackfile.specs.Turns.{taken-later, read-empty, read-all, read-has}
+use Rattle.rackfile.specs.LoadLaws.{read-long, read-some}
+use Rattle.rackfile_laws.specs.Records.{before, faultAt, FirstFaulty, Faultless}
 
--- a later record does not begin earlier
-at-later : (b : List ℕ) (k m : ℕ) → k ≤ m → recordAt b k ≤ recordAt b m
-unfolding recordAt
-at-later b k zero h = let e : k ≡ 0 = omega arith in rw e (omega arith)
-at-later b k (suc m) h =
-    tested (eqb k (suc m)) (λ q. rw (eqb-true k (suc m) q) (omega arith))
-    (λ q. omega (arith, at-later b k m (omega (arith, eqb-false k (suc m) q))))
+module _ (known : Class → Bool) (b : List ℕ) where
+  -- a later record begins later
+  at-later : (k m : ℕ) → k ≤ m → before b k .offset + (m - k) ≤ before b m .offset
+  unfolding before
+  at-later k zero h = let e : k ≡ 0 = omega arith in rw e (omega arith)
+  at-later k (suc m) h =
+      tested (eqb k (suc m)) (λ q. rw (eqb-true k (suc m) q) (omega arith))
+      (λ q. omega (arith, at-later k m (omega (arith, eqb-false k (suc m) q)), taken-later known b (before b m)))
 
-module _ (top : ℕ) (b : List ℕ) (d : Loading) (w : Walk top b (FileEnd top b) d) where
-  given : (d .refusal ≡ 0 → ⊥) → FirstFaulty top b (d .refusal) (d .offset)
-  given z =
-      let s = w .stopped z in
-      let g : recordRefusal top b (s .place) ≡ d .refusal = s .given in
+  -- a reading has come to record k, and no record before it has a fault
+  record Come (s : Reading) : Type 0 where
+    at : ℕ
+    there : before b at ≡ s
+    clean : (j : ℕ) → j < at → faultAt known b j ≡ 0
+
+  -- it stops at the first faulty record, or ends without one
+  record Went (d : Loading) : Type 0 where
+    stopped : (d .refusal ≡ 0 → ⊥) → FirstFaulty known b (d .refusal) (d .offset)
+    ended : d .refusal ≡ 0 → Faultless known b
+
+  come-on : (s : Reading) → Come s → s .offset < length b → recordFault known b s ≡ 0 → Come (taken b s)
+  unfolding before
+  come-on s c i z =
       record {
-        place = s .place;
-        inside = s .inside;
-        offset = s .offset;
-        earlier = λ j h m. record-none top b j (s .clean j h) m;
-        holds = rw g at (record-holds top b (s .place) (λ q. z (sym g ∙ q)));
-        lowest = λ m h. record-lowest top b (s .place) m (omega (arith, g));
+        at = suc (c .at);
+        there = ap (taken b) (c .there);
+        clean = λ j h.
+            tested (eqb j (c .at)) (λ q. ap (faultAt known b) (eqb-true j (c .at) q) ∙ ap (recordFault known b) (c .there) ∙ z)
+            (λ q. c .clean j (omega (arith, eqb-false j (c .at) q)));
       }
 
-  -- where the walk ends, no record has a fault
-  faultless : d .refusal ≡ 0 → Faultless top b
-  faultless z k h m =
-      let e = w .ended z in
-      tested (ltb k (e .count)) (λ q. record-none top b k (e .clean k (ltb-true k (e .count) q)) m)
-      (λ q. absurd (omega (arith, e .past, at-later b (e .count) k (ltb-false k (e .count) q))))
+  start : Come atStart
+  unfolding before
+  start = record { at = 0; there = refl; clean = λ j h. absurd (omega arith) }
 
-  -- and the converse of both
-  accepts : Faultless top b → d .refusal ≡ 0
-  accepts f =
-      tested (eqb (d .refusal) 0) (λ q. eqb-true (d .refusal) 0 q)
-      (λ q.
-      let g = given (eqb-false (d .refusal) 0 q) in
-      absurd (true≢false (sym (g .holds) ∙ f (g .place) (g .inside) (d .refusal))))
+  found : (s : Reading) → Come s → s .offset < length b → (recordFault known b s ≡ 0 → ⊥)
+      → FirstFaulty known b (recordFault known b s) (s .offset)
+  found s c i z =
+      let o = ap (λ (r : Reading). r .offset) (c .there) in
+      record {
+        first =
+            record {
+              place = c .at;
+              inside = omega (arith, i, o, at-later 0 (c .at) (omega arith));
+              earlier = c .clean;
+              here = ap (recordFault known b) (c .there);
+              applies = z;
+            };
+        stands = omega (arith, i, o);
+        offset = o;
+      }
 
-  gives : (n o : ℕ) → FirstFaulty top b n o → (d .refusal ≡ n) × (d .offset ≡ o)
-  gives n o f =
-      tested (eqb (d .refusal) 0)
-      (λ q. absurd (true≢false (sym (f .holds) ∙ faultless (eqb-true (d .refusal) 0 q) (f .place) (f .inside) n)))
-      (λ q.
-      let g = given (eqb-false (d .refusal) 0 q) in
-      let here : g .place ≡ f .place = same-place g f in (
-        sym (record-only top b (g .place) (d .refusal) (g .holds) (g .lowest)) ∙ ap (recordRefusal top b) here
-            ∙ record-only top b (f .place) n (f .holds) (f .lowest),
-        sym (g .offset) ∙ ap (recordAt b) here ∙ f .offset,
-      ))
-    where
-      same-place : {n o m p : ℕ} (g : FirstFaulty top b n o) (f : FirstFaulty top b m p) → g .place ≡ f .place
-      same-place {n} {o} {m} {p} g f =
-          tested (ltb (g .place) (f .place))
-          (λ l. absurd (true≢false (sym (g .holds) ∙ f .earlier (g .place) (ltb-true (g .place) (f .place) l) n)))
-          (λ l.
-          tested (ltb (f .place) (g .place))
-          (λ r. absurd (true≢false (sym (f .holds) ∙ g .earlier (f .place) (ltb-true (f .place) (g .place) r) m)))
-          (λ r. omega (arith, ltb-false (g .place) (f .place) l, ltb-false (f .place) (g .place) r)))
+  none-left : (s : Reading) → Come s → length b ≤ s .offset → Faultless known b
+  none-left s c e k i =
+      tested (ltb k (c .at)) (λ q. c .clean k (ltb-true k (c .at) q))
+      (λ q. absurd (omega (arith, i, e, at-later (c .at) k (ltb-false k (c .at) q), ap (λ (r : Reading). r .offset) (c .there))))
 
-refused-is : {d : Loading} {n o : ℕ} → d ≡ refused n o → (n ≡ 0 → ⊥) → d .refusal ≡ 0 → ⊥
-refused-is e z q = z (refusal-same e q)
-
-no-1 : (top : ℕ) (b : List ℕ) (k : ℕ) → recordFault top b k 1 ≡ false
-unfolding recordFault numbered
-no-1 top b k = refl
-
-module _ (b : List ℕ) where
-  -- 1 and 4 of a file as a whole
-  pub file-over : 65536 < length b → fileIn b ≡ refused 1 65536
-  file-over h = let e = rack-over b h in file-refused b (refused-is e (λ z. omega (arith, z))) ∙ e
-
-  pub file-empty : length b ≡ 0 → fileIn b ≡ refused 4 0
-  file-empty h = let e = rack-empty b h in file-refused b (refused-is e (λ z. omega (arith, z))) ∙ e
-
-  -- the numbers of a file of 1 to 65,536 bytes
+  -- the numbers of 1 to 65,536 bytes
   module _ (long : length b ≤ 65536) (some : length b ≡ 0 → ⊥) where
-    pub file-given : (fileIn b .refusal ≡ 0 → ⊥) → FirstFaulty 8 b (fileIn b .refusal) (fileIn b .offset)
-    file-given z = given 8 b (fileIn b) (file-walk b long some) z
+    went : Went (readIn known b)
+    went =
+        rw (read-all known b long some)
+        (read-has known b Come Went come-on
+        (λ s c e. record { stopped = λ z. absurd (z refl); ended = λ z. none-left s c e })
+        (λ s c i z. record { stopped = λ w. found s c i z; ended = λ w. absurd (z w) })
+        (length b) atStart (omega arith) start)
 
-    pub file-gives : (n o : ℕ) → FirstFaulty 8 b n o → (fileIn b .refusal ≡ n) × (fileIn b .offset ≡ o)
-    file-gives n o f = gives 8 b (fileIn b) (file-walk b long some) n o f
+    pub given : (readIn known b .refusal ≡ 0 → ⊥) → FirstFaulty known b (readIn known b .refusal) (readIn known b .offset)
+    given z = went .stopped z
 
-    pub file-accepts : Faultless 8 b → fileIn b .refusal ≡ 0
-    file-accepts f = accepts 8 b (fileIn b) (file-walk b long some) f
+    -- and the converse of both
+    pub accepts : Faultless known b → readIn known b .refusal ≡ 0
+    accepts f =
+        tested (eqb (readIn known b .refusal) 0) (λ q. eqb-true (readIn known b .refusal) 0 q)
+        (λ q.
+        let g = given (eqb-false (readIn known b .refusal) 0 q) in
+        absurd (g .first .applies (sym (g .first .here) ∙ f (g .first .place) (g .stands))))
 
-  -- an accepted file has 1 to 65,536 bytes (`file-long`), and no record with a fault
-  pub file-some : fileIn b .refusal ≡ 0 → length b ≡ 0 → ⊥
-  file-some z e = refused-is (file-empty e) (λ q. omega (arith, q)) z
+    pub gives : (n o : ℕ) → FirstFaulty known b n o → (readIn known b .refusal ≡ n) × (readIn known b .offset ≡ o)
+    gives n o f =
+        tested (eqb (readIn known b .refusal) 0)
+        (λ q.
+        absurd (f .first .applies (sym (f .first .here) ∙ went .ended (eqb-true (readIn known b .refusal) 0 q) (f .first .place) (f .stands))))
+        (λ q.
+        let g = given (eqb-false (readIn known b .refusal) 0 q) in
+        let here = same-place (g .first) (f .first) in
+        (same-number (g .first) (f .first), sym (g .offset) ∙ ap (λ k. before b k .offset) here ∙ f .offset))
 
-  pub file-faultless : fileIn b .refusal ≡ 0 → Faultless 8 b
-  file-faultless z = faultless 8 b (fileIn b) (file-walk b (file-long b z) (file-some z)) z
+  -- accepted bytes are 1 to 65,536 (rackfile `LoadLaws.read-long`, `read-some`), and no record of theirs has a fault
+  pub faultless : readIn known b .refusal ≡ 0 → Faultless known b
+  faultless z = went (read-long known b z) (read-some known b z) .ended z
 
-  -- 1 is given to no other file
-  pub file-1 : fileIn b .refusal ≡ 1 → 65536 < length b
-  file-1 e =
-      tested (ltb 65536 (length b)) (λ q. ltb-true 65536 (length b) q)
-      (λ q.
-      let g = file-given (ltb-false 65536 (length b) q) not-empty (λ z. omega (arith, e, z)) in
-      absurd (true≢false (sym (g .holds) ∙ ap (recordFault 8 b (g .place)) e ∙ no-1 8 b (g .place))))
-    where
-      not-empty : length b ≡ 0 → ⊥
-      not-empty h = let w : _≡_ {A = ℕ} 1 4 = sym e ∙ ap (λ (d : Loading). d .refusal) (file-empty h) in omega arith
+-- 1 is no record's number
+abbrev not-1 : ℕ → Type 0
+not-1 n = eqb n 1 ≡ false
 
--- no byte is no event
-empty-kind : (b : List ℕ) → length b ≡ 0 → isEvent (byteIn b 0) ≡ false
-empty-kind [] h = refl
-empty-kind (x ∷ l) h = absurd (omega arith)
+abbrev each-not-1 : List ℕ → Type 0
+each-not-1 [] = Unit {0}
+each-not-1 (n ∷ ns) = not-1 n × each-not-1 ns
 
--- the same of the rack records of a call
-module _ (b : List ℕ) where
-  pub alone-over : 65536 < length b → rackAlone b ≡ refused 1 65536
-  alone-over h =
-      let e = rack-over b h in
-      let f : eventFirst b ≡ false = rw (lt-leb (length b) 65536 h) in
-      alone-later b f ∙ later-refused b (refused-is e (λ z. omega (arith, z))) ∙ e
+first-1 : (ns : List ℕ) → each-not-1 ns → not-1 (first ns)
+unfolding first
+first-1 [] w = refl
+first-1 (n ∷ ns) w = tested (eqb n 0) (λ q. rw q (first-1 ns (w .1))) (λ q. rw q (w .0))
 
-  pub alone-empty : length b ≡ 0 → rackAlone b ≡ refused 4 0
-  alone-empty h =
-      let e = rack-empty b h in
-      let f : eventFirst b ≡ false = rw (le-leb (length b) 65536 (omega arith), empty-kind b h) in
-      alone-later b f ∙ later-refused b (refused-is e (λ z. omega (arith, z))) ∙ e
+when-1 : (n : ℕ) (x : Bool) → not-1 n → not-1 (n when x)
+when-1 n true h = h
+when-1 n false h = refl
 
-  module _ (long : length b ≤ 65536) (some : length b ≡ 0 → ⊥) where
-    pub alone-given : (rackAlone b .refusal ≡ 0 → ⊥) → FirstFaulty 3 b (rackAlone b .refusal) (rackAlone b .offset)
-    alone-given z = given 3 b (rackAlone b) (alone-walk b long some) z
+record-1 : (known : Class → Bool) (b : List ℕ) (s : Reading) → not-1 (recordFault known b s)
+unfolding recordFault shapeFault nodeFault nodeRefusal
+record-1 known b s =
+    first-1 (recordFaults known b s) (
+      first-1 (shapeFaults known b (classIn b (s .offset)) (s .offset) (s .events)) (search when-1),
+      (
+        when-1 _ (isNode (classIn b (s .offset)))
+            (first-1 (nodeFaults (nodesWith (s .tree) (nodeIn b (s .offset))) (s .tree .count)) (search when-1)),
+        (when-1 _ (isEvent (classIn b (s .offset))) (search when-1), tt),
+      ),
+    )
 
-    pub alone-gives : (n o : ℕ) → FirstFaulty 3 b n o → (rackAlone b .refusal ≡ n) × (rackAlone b .offset ≡ o)
-    alone-gives n o f = gives 3 b (rackAlone b) (alone-walk b long some) n o f
-
-    pub alone-accepts : Faultless 3 b → rackAlone b .refusal ≡ 0
-    alone-accepts f = accepts 3 b (rackAlone b) (alone-walk b long some) f
-
-  pub alone-faultless : rackAlone b .refusal ≡ 0 → Faultless 3 b
-  alone-faultless z = faultless 3 b (rackAlone b) (alone-walk b (alone-long b z) (alone-some z)) z
-    where
-      alone-some : rackAlone b .refusal ≡ 0 → length b ≡ 0 → ⊥
-      alone-some z e = refused-is (alone-empty e) (λ q. omega (arith, q)) z
+-- and is given to nothing that is not too long
+pub only-1 : (known : Class → Bool) (b : List ℕ) → readIn known b .refusal ≡ 1 → 65536 < length b
+only-1 known b e =
+    tested (ltb 65536 (length b)) (λ q. ltb-true 65536 (length b) q)
+    (λ q.
+    let g = given known b (ltb-false 65536 (length b) q) some (λ z. omega (arith, e, z)) in
+    absurd (eqb-false _ 1 (record-1 known b (before b (g .first .place))) (g .first .here ∙ e)))
+  where
+    some : length b ≡ 0 → ⊥
+    some h = let w : _≡_ {A = ℕ} 1 4 = sym e ∙ ap (λ (d : Loading). d .refusal) (read-empty known b h) in omega arith

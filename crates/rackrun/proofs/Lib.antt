@@ -1,2 +1,4 @@
 -- What the proofs of several needs use.
+mod Onward
+mod Read
 mod Room

@@ -11,6 +11,9 @@ use loading::load_file;
 use output::Cursor;
 use output::fill::fill;
 use output::start::start;
+use rack::table::Table;
+use rack::table::bridges_below;
+use rack::table::count_of;
 use rackfile::Loaded;
 
 // The first n bytes; false where they cannot be written.
@@ -36,18 +39,17 @@ fn print_refused(refusal: u8, offset: usize) -> bool
 // The next part of the output of an accepted file; the cursor behind it, or the file's end where nothing more can be written.
 fn print_part(
     file: &[u8],
-    words: &[u64; 192],
-    count: u8,
+    table: &Table,
     bridges: &mut [u8],
     devices: &mut [u8],
     at: Cursor,
 ) -> Cursor
-    requires { ⌜ (rackRefusal (treeOf count (now words)) ≡ 0) × (length (now file) ≤ 65536) × (at .number ≤ at .offset + 1) ⌝ }
+    requires { ⌜ (rackRefusal (treeOf (now table)) ≡ 0) × (length (now file) ≤ 65536) × (at .number ≤ at .offset + 1) ⌝ }
     ensures { λ r. ⌜ (r .number ≤ r .offset + 1) × (at .offset < length (now (file .entry)) → at .offset < r .offset) ⌝ }
 {
     let mut space = io::large_buffer();
     let out: &mut [u8] = &mut space;
-    let f = fill(file, words, count, bridges, devices, at, out);
+    let f = fill(file, table, bridges, devices, at, out);
     if print(out, f.len) {
         return f.next;
     }
@@ -58,19 +60,12 @@ fn print_part(
 }
 
 // The whole output of an accepted file, part by part.
-fn print_events(
-    file: &[u8],
-    words: &[u64; 192],
-    count: u8,
-    bridges: &mut [u8],
-    devices: &mut [u8],
-    offset: usize,
-)
-    requires { ⌜ (rackRefusal (treeOf count (now words)) ≡ 0) × (length (now file) ≤ 65536) ⌝ }
+fn print_events(file: &[u8], table: &Table, bridges: &mut [u8], devices: &mut [u8], offset: usize)
+    requires { ⌜ (rackRefusal (treeOf (now table)) ≡ 0) × (length (now file) ≤ 65536) ⌝ }
 {
-    let mut next = start(words, count, bridges, devices, offset);
+    let mut next = start(table, bridges, devices, offset);
     while next.offset < file.len() {
-        next = print_part(file, words, count, bridges, devices, next);
+        next = print_part(file, table, bridges, devices, next);
     }
 }
 
@@ -88,16 +83,16 @@ fn devices_image() -> [u8; 4096]
 }
 
 fn run_loaded(file: &[u8], l: Loaded)
-    requires { ⌜ (rackRefusal (treeOf (l .count) (l .words)) ≡ 0) × (length (now file) ≤ 65536) ⌝ }
+    requires { ⌜ (rackRefusal (treeOf (l .table)) ≡ 0) × (length (now file) ≤ 65536) ⌝ }
 {
-    let b = rack::table::bridges_below(&l.words, l.count as usize);
-    let d = l.count as usize - b;
+    let count = count_of(&l.table) as usize;
+    let b = bridges_below(&l.table, count);
+    let d = count - b;
     let mut bridges = bridges_image();
     let mut devices = devices_image();
     print_events(
         file,
-        &l.words,
-        l.count,
+        &l.table,
         &mut bridges[..64 * b],
         &mut devices[..64 * d],
         l.offset,

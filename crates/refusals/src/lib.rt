@@ -3,15 +3,17 @@ ghost use mathlib.Core.Path.{_≡_};
 ghost use Rattle.rack.specs.Table.{nodeAt, treeOf};
 ghost use Rattle.rack.specs.Refusal.{tooMany, badParent, highDevice, sameSlot, takenDevice, regionRange, regionsRange, badRegion, nodeRefusal, rackRefusal};
 use rack::Node;
+use rack::table::Table;
 use rack::table::bridges_below;
+use rack::table::count_of;
 use rack::table::node_at;
 
 // 6
-fn too_many(words: &[u64; 192], i: usize) -> bool
-    ensures { λ r. ⌜ r ≡ tooMany (nodeAt (now (words .entry))) i ⌝ }
+fn too_many(table: &Table, i: usize) -> bool
+    ensures { λ r. ⌜ r ≡ tooMany (nodeAt (now (table .entry))) i ⌝ }
 {
-    let bridges = bridges_below(words, i);
-    let n = node_at(words, i);
+    let bridges = bridges_below(table, i);
+    let n = node_at(table, i);
     let kind = n.kind;
     if rack::is_bridge(kind) {
         32 <= bridges
@@ -21,22 +23,22 @@ fn too_many(words: &[u64; 192], i: usize) -> bool
 }
 
 // 7
-fn bad_parent(words: &[u64; 192], i: usize) -> bool
-    ensures { λ r. ⌜ r ≡ badParent (nodeAt (now (words .entry))) i ⌝ }
+fn bad_parent(table: &Table, i: usize) -> bool
+    ensures { λ r. ⌜ r ≡ badParent (nodeAt (now (table .entry))) i ⌝ }
 {
-    let n = node_at(words, i);
+    let n = node_at(table, i);
     let parent = n.parent as usize;
-    let above = node_at(words, parent);
+    let above = node_at(table, parent);
     let kind = above.kind;
     let bridge = rack::is_bridge(kind);
     !((parent == 255) | ((parent < i) & bridge))
 }
 
 // 8
-fn high_device(words: &[u64; 192], i: usize) -> bool
-    ensures { λ r. ⌜ r ≡ highDevice (nodeAt (now (words .entry))) i ⌝ }
+fn high_device(table: &Table, i: usize) -> bool
+    ensures { λ r. ⌜ r ≡ highDevice (nodeAt (now (table .entry))) i ⌝ }
 {
-    let n = node_at(words, i);
+    let n = node_at(table, i);
     15 < n.device
 }
 
@@ -47,13 +49,13 @@ fn same_slot(m: Node, n: Node) -> bool
 }
 
 // 9
-fn taken_device(words: &[u64; 192], i: usize) -> bool
-    ensures { λ r. ⌜ r ≡ takenDevice (nodeAt (now (words .entry))) i ⌝ }
+fn taken_device(table: &Table, i: usize) -> bool
+    ensures { λ r. ⌜ r ≡ takenDevice (nodeAt (now (table .entry))) i ⌝ }
 {
-    let n = node_at(words, i);
+    let n = node_at(table, i);
     let mut j: usize = 0;
     while j < i {
-        if same_slot(node_at(words, j), n) {
+        if same_slot(node_at(table, j), n) {
             return true;
         }
         j += 1;
@@ -81,41 +83,41 @@ fn regions_range(n: Node) -> bool
 }
 
 // 10
-fn bad_region(words: &[u64; 192], i: usize) -> bool
-    ensures { λ r. ⌜ r ≡ badRegion (nodeAt (now (words .entry))) i ⌝ }
+fn bad_region(table: &Table, i: usize) -> bool
+    ensures { λ r. ⌜ r ≡ badRegion (nodeAt (now (table .entry))) i ⌝ }
 {
-    let n = node_at(words, i);
+    let n = node_at(table, i);
     let kind = n.kind;
     !(rack::is_bridge(kind) | regions_range(n))
 }
 
 // The lowest number that applies to a node, 0 where none does.
-pub fn node_refusal(words: &[u64; 192], i: usize) -> u8
-    ensures { λ r. ⌜ r ≡ nodeRefusal (nodeAt (now (words .entry))) i ⌝ }
+pub fn node_refusal(table: &Table, i: usize) -> u8
+    ensures { λ r. ⌜ r ≡ nodeRefusal (nodeAt (now (table .entry))) i ⌝ }
 {
-    if too_many(words, i) {
+    if too_many(table, i) {
         return 6;
     }
-    if bad_parent(words, i) {
+    if bad_parent(table, i) {
         return 7;
     }
-    if high_device(words, i) {
+    if high_device(table, i) {
         return 8;
     }
-    if taken_device(words, i) {
+    if taken_device(table, i) {
         return 9;
     }
-    if bad_region(words, i) { 10 } else { 0 }
+    if bad_region(table, i) { 10 } else { 0 }
 }
 
 // The refusal of a rack's table, 0 where there is none.
-pub fn refusal_of(words: &[u64; 192], count: u8) -> u8
-    ensures { λ r. ⌜ r ≡ rackRefusal (treeOf count (now (words .entry))) ⌝ }
+pub fn refusal_of(table: &Table) -> u8
+    ensures { λ r. ⌜ r ≡ rackRefusal (treeOf (now (table .entry))) ⌝ }
 {
-    let end = count as usize;
+    let end = count_of(table) as usize;
     let mut i: usize = 0;
     while i < end {
-        let found = node_refusal(words, i);
+        let found = node_refusal(table, i);
         if found != 0 {
             return found;
         }

@@ -1,6 +1,6 @@
 -- The turns of the loops that put reset values: one byte of a part more, one node of a rack more.
 -- Assumes nothing.
-use mathlib.Core.Path.{_≡_}
+use mathlib.Core.Path.{_≡_, sym, ap, _∙_}
 use mathlib.Core.List.{List, [], _∷_, _++_, append-nil}
 use Prim.Native.Nat.{ℕ, _+_, _-_, _≤_, _<_}
 use native.Mathlib.Numerals.{add-one}
@@ -12,7 +12,7 @@ use Rattle.rack.specs.Tree.{Tree}
 use Rattle.rack.specs.CountLaws.{left-suc, left-none}
 use Rattle.header.specs.Mask.{resetByte}
 use Rattle.registers.specs.Image.{Images, onNode}
-use Rattle.registers.specs.Reset.{resetFrom, resetPart, resetNodes}
+use Rattle.registers.specs.Reset.{resetFrom, resetPart, resetNodes, resetImages}
 
 from-next : (n : Node) (at : ℕ) → at < 64 → resetFrom n at (64 - at) ≡ resetByte n at ∷ resetFrom n (at + 1) (64 - (at + 1))
 unfolding resetFrom
@@ -35,11 +35,17 @@ bytes-none n l at el h e =
     rw (left-none at 64 h, take-all at l whole, append-nil) at e
 
 -- the nodes below i are at reset
-pub nodes-next : (t : Tree) (im : Images) (i n : ℕ) → i < n
-    → resetNodes t im i (n - i) ≡ resetNodes t (onNode t im i (λ part. resetPart (t .node i))) (i + 1) (n - (i + 1))
-unfolding resetNodes
-nodes-next t im i n h = rw (left-suc i n h)
+abbrev pub ResetYet : Tree → Images → ℕ → Images → ℕ → Type 0
+ResetYet t whole n im i = resetNodes t whole 0 n ≡ resetNodes t im i (n - i)
 
-pub nodes-none : (t : Tree) (im : Images) (i n : ℕ) → n ≤ i → resetNodes t im i (n - i) ≡ im
-unfolding resetNodes
-nodes-none t im i n h = rw (left-none i n h)
+pub reset-none : (t : Tree) (im : Images) (n : ℕ) → ResetYet t im n im 0
+reset-none t im n = let e : n ≡ n - 0 = omega arith in ap (resetNodes t im 0) e
+
+module _ (t : Tree) (whole im : Images) {n i : ℕ} (yet : ResetYet t whole n im i) where
+  pub reset-next : {after : Images} → i < n → after ≡ onNode t im i (λ part. resetPart (t .node i)) → ResetYet t whole n after (i + 1)
+  unfolding resetNodes
+  reset-next h e = yet ∙ rw (left-suc i n h, e)
+
+  pub reset-all : n ≡ t .count → n ≤ i → im ≡ resetImages t whole
+  unfolding resetNodes
+  reset-all at h = sym (ap (resetNodes t whole 0) (sym at) ∙ yet ∙ rw (left-none i n h))

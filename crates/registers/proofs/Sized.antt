@@ -1,21 +1,22 @@
 -- The size of a region after the code has looked its node up, and the sizes that are 0.
 -- Assumes nothing.
-use mathlib.Core.Path.{_≡_, refl}
+use mathlib.Core.Path.{_≡_, refl, sym}
 use mathlib.Core.Bool.{Bool, true, false, cond}
 use mathlib.Core.List.{List, []}
-use Prim.Native.Nat.{ℕ, _<_, _≤_}
+use Prim.Native.Nat.{ℕ, _+_, _-_, _*_, _/_, _<_, _≤_}
 use borrow.Author.Tests.{lt-ltb, le-ltb}
-use lib.Dec.{ltb}
-use lib.ListN.{length, List·getD-eq-default}
+use lib.ListN.{length, take, drop, List·getD-eq-default}
 use Rattle.rack.specs.declared.Node.{Node}
 use Rattle.rack.specs.Node.{isBridge, noRegion, regionIn}
 use Rattle.rack.specs.Tree.{Tree}
-use Rattle.rack.specs.Table.{nodeAt}
+use Rattle.rack.specs.Table.{nodeAt, treeOf}
 use Rattle.header.specs.Register.{readRegister, writeByte, writeDword, writeRegister}
 use Rattle.header.specs.Sizing.{readBack, regionRegister, sizePart}
+use Rattle.header.specs.SizingLaws.{kind-none}
 use Rattle.registers.specs.Image.{images, partOf}
 use Rattle.registers.specs.Sizing.{sizeRegion}
-use Rattle.registers.proofs.Held.{view-held}
+use Rattle.registers.proofs.Slot.{inside, outside}
+use Rattle.registers.proofs.Held.{view-device}
 
 either : {A : Type 0} (b : Bool) (x : A) → cond b x x ≡ x
 either true x = refl
@@ -31,33 +32,46 @@ back-none : (n : Node) (register : ℕ) → readBack n [] register ≡ 0
 unfolding readBack readRegister writeRegister writeDword
 back-none n register = simp (byte-none, either)
 
-pub size-none : (n : Node) (kind register : ℕ) → sizePart n [] kind register ≡ 0
+size-none : (n : Node) (kind register : ℕ) → sizePart n [] kind register ≡ 0
 unfolding sizePart
 size-none n kind register = simp (back-none, either)
 
--- a node has three regions, so one past them is none
-picked : (b : Bool) (m n : Node) (r : ℕ) → length (m .regions) ≤ r → length (n .regions) ≤ r
-    → regionIn (cond b m n) r ≡ noRegion
-picked true m n r hm hn = List·getD-eq-default (m .regions) noRegion hm
-picked false m n r hm hn = List·getD-eq-default (n .regions) noRegion hn
+module _ (n : Node) (l : List ℕ) (p kind register : ℕ) where
+  pub size-inside : {s : ℕ} → p < length l / 64 → s ≡ sizePart n (take (64 * p + 64 - 64 * p) (drop (64 * p) l)) kind register
+      → s ≡ sizePart n (partOf l p) kind register
+  size-inside h e = rw (← inside l p h) e
 
-pub region-past : (words : List ℕ) (i r : ℕ) → 3 ≤ r → regionIn (nodeAt words i) r ≡ noRegion
+  pub size-outside : length l / 64 ≤ p → 0 ≡ sizePart n (partOf l p) kind register
+  size-outside h = rw (← outside l p h) (sym (size-none n kind register))
+
+-- a node of a table has three regions, so one past them is none
+region-past : (table : List ℕ) (i r : ℕ) → 3 ≤ r → regionIn (nodeAt table i) r ≡ noRegion
 unfolding nodeAt
-region-past words i r h = picked (ltb i 96) _ _ r h h
+region-past table i r h = List·getD-eq-default (nodeAt table i .regions) noRegion h
 
-module _ (t : Tree) (b d : List ℕ) (i r : ℕ) where
-  pub size-missing : t .count ≤ i → 0 ≡ sizeRegion t (images b d) i r
+module _ (t : Tree) (b d : List ℕ) (i r : ℕ) {count : ℕ} (at : count ≡ t .count) where
+  pub size-missing : count ≤ i → 0 ≡ sizeRegion t (images b d) i r
   unfolding sizeRegion
-  size-missing h = rw (le-ltb i (t .count) h)
+  size-missing h = rw (le-ltb i (t .count) (rw at at h))
 
   -- a node n whose kind was asked
-  module _ {n : Node} {bridge : Bool} (here : i < t .count) (en : n ≡ t .node i) (eb : bridge ≡ isBridge (n .kind)) where
+  module _ {n : Node} {bridge : Bool} (here : i < count) (en : n ≡ t .node i) (eb : bridge ≡ isBridge (n .kind)) where
     pub size-bridge : bridge ≡ true → 0 ≡ sizeRegion t (images b d) i r
     unfolding sizeRegion
-    size-bridge e = simp (lt-ltb i (t .count) here, ← en, ← eb, e)
+    size-bridge e = simp (lt-ltb i (t .count) (rw at at here), ← en, ← eb, e)
 
-    pub size-device : {p k s : ℕ} → bridge ≡ false → p ≡ t .place i → k ≡ regionIn n r .kind
-        → s ≡ sizePart n (partOf d p) k (regionRegister r) → s ≡ sizeRegion t (images b d) i r
+    pub size-device : {p s : ℕ} → bridge ≡ false → p ≡ t .place i
+        → s ≡ sizePart n (partOf d p) (regionIn n r .kind) (regionRegister r) → s ≡ sizeRegion t (images b d) i r
     unfolding sizeRegion
-    size-device e ep ek es =
-        simp (lt-ltb i (t .count) here, ← view-held t b d i here en ep eb e refl, ← en, ← eb, e, ← ek, es)
+    size-device e ep es =
+        simp (lt-ltb i (t .count) (rw at at here), ← view-device t b d i at here en ep eb e refl, ← en, ← eb, e, es)
+
+pub same-devices : (b d : List ℕ) {l : List ℕ} → l ≡ d → images b l ≡ images b d
+same-devices b d e = rw e
+
+-- of a table's node
+pub size-past : (table b d : List ℕ) (i r : ℕ) {count : ℕ} {n : Node} {bridge : Bool} → count ≡ treeOf table .count → i < count
+    → n ≡ nodeAt table i → bridge ≡ isBridge (n .kind) → bridge ≡ false → 3 ≤ r → 0 ≡ sizeRegion (treeOf table) (images b d) i r
+size-past table b d i r {n = n} at here en eb e h =
+    size-device (treeOf table) b d i r at here en eb e refl
+    (rw (en, region-past table i r h) (sym (kind-none _ _ _)))

@@ -5,7 +5,7 @@ use mathlib.Core.List.{List, []}
 use Prim.Native.Nat.{ℕ, _+_, _-_, _*_, _/_, _<_, _≤_}
 use native.Mathlib.Omega.{arith}
 use borrow.Author.Tests.{lt-ltb, le-ltb}
-use borrow.Rule.Slice.PartMut.{putMid}
+use borrow.Rule.Slice.PartMut.{putMid, put-same}
 use lib.ListN.{length, take, drop}
 use lib.Seq.{drop-drop}
 use Rattle.registers.specs.Image.{partOf, onPart}
@@ -32,3 +32,8 @@ put-back l p f h e = rw (e, width p, lt-ltb p (length l / 64) h, drop-drop 64 (6
 pub untouched : (l : List ℕ) (p : ℕ) (f : List ℕ → List ℕ) → length l / 64 ≤ p → l ≡ onPart l p f
 unfolding onPart
 untouched l p f h = rw (le-ltb p (length l / 64) h)
+
+-- one that came back as it was leaves the image as it was
+pub same-part : (l : List ℕ) (p : ℕ) {q : List ℕ} → q ≡ take (64 * p + 64 - 64 * p) (drop (64 * p) l)
+    → putMid (64 * p) (64 * p + 64 - 64 * p) l q ≡ l
+same-part l p e = rw e (put-same (64 * p) (64 * p + 64 - 64 * p) l)

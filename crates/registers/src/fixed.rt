@@ -4,6 +4,8 @@ ghost use Rattle.rack.specs.Table.{treeOf};
 ghost use Rattle.registers.specs.Image.{images};
 ghost use Rattle.registers.specs.Fixed.{lengthsWrong, valueWrong, partWrong, nodeWrong, fixedWrong, imageRefusal};
 use rack::Node;
+use rack::table::Table;
+use rack::table::count_of;
 
 // Whether a fixed bit of the byte differs from its reset value.
 fn value_wrong(n: Node, at: usize, value: u8) -> bool
@@ -26,27 +28,22 @@ fn part_wrong(n: Node, part: &[u8]) -> bool
     false
 }
 
-fn node_wrong<'a>(
-    words: &[u64; 192],
-    count: u8,
-    bridges: &'a [u8],
-    devices: &'a [u8],
-    i: u8,
-) -> bool
-    ensures { λ r. ⌜ r ≡ nodeWrong (treeOf count (now (words .entry))) (images (now (bridges .entry)) (now (devices .entry))) i ⌝ }
+fn node_wrong<'a>(table: &Table, bridges: &'a [u8], devices: &'a [u8], i: u8) -> bool
+    ensures { λ r. ⌜ r ≡ nodeWrong (treeOf (now (table .entry))) (images (now (bridges .entry)) (now (devices .entry))) i ⌝ }
 {
     part_wrong(
-        rack::table::node_at(words, i as usize),
-        crate::image::view_of(words, count, bridges, devices, i),
+        rack::table::node_at(table, i as usize),
+        crate::image::view_of(table, bridges, devices, i),
     )
 }
 
-fn fixed_wrong<'a>(words: &[u64; 192], count: u8, bridges: &'a [u8], devices: &'a [u8]) -> bool
-    ensures { λ r. ⌜ r ≡ fixedWrong (treeOf count (now (words .entry))) (images (now (bridges .entry)) (now (devices .entry))) ⌝ }
+fn fixed_wrong<'a>(table: &Table, bridges: &'a [u8], devices: &'a [u8]) -> bool
+    ensures { λ r. ⌜ r ≡ fixedWrong (treeOf (now (table .entry))) (images (now (bridges .entry)) (now (devices .entry))) ⌝ }
 {
+    let count = count_of(table);
     let mut i: u8 = 0;
     while i < count {
-        if node_wrong(words, count, bridges, devices, i) {
+        if node_wrong(table, bridges, devices, i) {
             return true;
         }
         i += 1;
@@ -54,27 +51,23 @@ fn fixed_wrong<'a>(words: &[u64; 192], count: u8, bridges: &'a [u8], devices: &'
     false
 }
 
-pub fn lengths_wrong<'a>(
-    words: &[u64; 192],
-    count: u8,
-    bridges: &'a [u8],
-    devices: &'a [u8],
-) -> bool
-    ensures { λ r. ⌜ r ≡ lengthsWrong (treeOf count (now (words .entry))) (images (now (bridges .entry)) (now (devices .entry))) ⌝ }
+pub fn lengths_wrong<'a>(table: &Table, bridges: &'a [u8], devices: &'a [u8]) -> bool
+    ensures { λ r. ⌜ r ≡ lengthsWrong (treeOf (now (table .entry))) (images (now (bridges .entry)) (now (devices .entry))) ⌝ }
 {
-    let b = rack::table::bridges_below(words, count as usize);
-    let d = count as usize - b;
+    let count = count_of(table) as usize;
+    let b = rack::table::bridges_below(table, count);
+    let d = count - b;
     !((bridges.len() == 64 * b) & (devices.len() == 64 * d))
 }
 
 // The refusal of two images, 0 where there is none.
-pub fn image_refusal<'a>(words: &[u64; 192], count: u8, bridges: &'a [u8], devices: &'a [u8]) -> u8
-    ensures { λ r. ⌜ r ≡ imageRefusal (treeOf count (now (words .entry))) (images (now (bridges .entry)) (now (devices .entry))) ⌝ }
+pub fn image_refusal<'a>(table: &Table, bridges: &'a [u8], devices: &'a [u8]) -> u8
+    ensures { λ r. ⌜ r ≡ imageRefusal (treeOf (now (table .entry))) (images (now (bridges .entry)) (now (devices .entry))) ⌝ }
 {
-    if lengths_wrong(words, count, bridges, devices) {
+    if lengths_wrong(table, bridges, devices) {
         return 11;
     }
-    if fixed_wrong(words, count, bridges, devices) {
+    if fixed_wrong(table, bridges, devices) {
         return 12;
     }
     0

@@ -6,6 +6,8 @@ ghost use Rattle.registers.specs.Image.{images, partOf, onPart, view, wr
 use header::Side;
 use header::StatusBit;
 use rack::Node;
+use rack::table::Table;
+use rack::table::count_of;
 use rack::table::node_at;
 use rack::table::place_at;
 
@@ -20,18 +22,12 @@ fn part_of(image: &[u8], place: usize) -> &[u8]
 }
 
 // The register view: the part of a node; of a missing node an empty part.
-pub fn view_of<'a>(
-    words: &[u64; 192],
-    count: u8,
-    bridges: &'a [u8],
-    devices: &'a [u8],
-    i: u8,
-) -> &'a [u8]
-    ensures { λ r. ⌜ now r ≡ view (treeOf count (now (words .entry))) (images (now (bridges .entry)) (now (devices .entry))) i ⌝ }
+pub fn view_of<'a>(table: &Table, bridges: &'a [u8], devices: &'a [u8], i: u8) -> &'a [u8]
+    ensures { λ r. ⌜ now r ≡ view (treeOf (now (table .entry))) (images (now (bridges .entry)) (now (devices .entry))) i ⌝ }
 {
-    if i < count {
-        let n = node_at(words, i as usize);
-        let place = place_at(words, i as usize) as usize;
+    if i < count_of(table) {
+        let n = node_at(table, i as usize);
+        let place = place_at(table, i as usize) as usize;
         let kind = n.kind;
         if rack::is_bridge(kind) {
             return part_of(bridges, place);
@@ -57,8 +53,7 @@ fn write_part(image: &mut [u8], place: usize, n: Node, register: u8, enables: u8
 
 // A register write of one node.
 pub fn write_node(
-    words: &[u64; 192],
-    count: u8,
+    table: &Table,
     bridges: &mut [u8],
     devices: &mut [u8],
     i: u8,
@@ -66,11 +61,11 @@ pub fn write_node(
     enables: u8,
     put: u32,
 )
-    ensures { λ _. ⌜ images (now (bridges .exit)) (now (devices .exit)) ≡ writeNode (treeOf count (now (words .entry))) (images (now (bridges .entry)) (now (devices .entry))) i register enables put ⌝ }
+    ensures { λ _. ⌜ images (now (bridges .exit)) (now (devices .exit)) ≡ writeNode (treeOf (now (table .entry))) (images (now (bridges .entry)) (now (devices .entry))) i register enables put ⌝ }
 {
-    if i < count {
-        let n = node_at(words, i as usize);
-        let place = place_at(words, i as usize) as usize;
+    if i < count_of(table) {
+        let n = node_at(table, i as usize);
+        let place = place_at(table, i as usize) as usize;
         let kind = n.kind;
         if rack::is_bridge(kind) {
             write_part(bridges, place, n, register, enables, put);
@@ -90,19 +85,18 @@ fn status_part(image: &mut [u8], place: usize, n: Node, side: Side, bit: StatusB
 
 // A status bit of one node set.
 pub fn status_node(
-    words: &[u64; 192],
-    count: u8,
+    table: &Table,
     bridges: &mut [u8],
     devices: &mut [u8],
     i: u8,
     side: Side,
     bit: StatusBit,
 )
-    ensures { λ _. ⌜ images (now (bridges .exit)) (now (devices .exit)) ≡ statusNode (treeOf count (now (words .entry))) (images (now (bridges .entry)) (now (devices .entry))) i side bit ⌝ }
+    ensures { λ _. ⌜ images (now (bridges .exit)) (now (devices .exit)) ≡ statusNode (treeOf (now (table .entry))) (images (now (bridges .entry)) (now (devices .entry))) i side bit ⌝ }
 {
-    if i < count {
-        let n = node_at(words, i as usize);
-        let place = place_at(words, i as usize) as usize;
+    if i < count_of(table) {
+        let n = node_at(table, i as usize);
+        let place = place_at(table, i as usize) as usize;
         let kind = n.kind;
         if rack::is_bridge(kind) {
             status_part(bridges, place, n, side, bit);

@@ -5,6 +5,8 @@ ghost use Rattle.rack.specs.Table.{treeOf};
 ghost use Rattle.registers.specs.Image.{images, onPart, onNode};
 ghost use Rattle.registers.specs.Reset.{resetPart, resetImages};
 use rack::Node;
+use rack::table::Table;
+use rack::table::count_of;
 
 fn reset_part(part: &mut [u8], n: Node)
     requires { ⌜ length (now part) ≡ 64 ⌝ }
@@ -25,12 +27,13 @@ fn reset_at(image: &mut [u8], place: usize, n: Node)
     }
 }
 
-fn reset_node(words: &[u64; 192], count: u8, bridges: &mut [u8], devices: &mut [u8], i: u8)
-    ensures { λ _. ⌜ images (now (bridges .exit)) (now (devices .exit)) ≡ onNode (treeOf count (now (words .entry))) (images (now (bridges .entry)) (now (devices .entry))) i (λ part. resetPart (treeOf count (now (words .entry)) .node i)) ⌝ }
+fn reset_node(table: &Table, bridges: &mut [u8], devices: &mut [u8], i: u8)
+    ensures { λ _. ⌜ images (now (bridges .exit)) (now (devices .exit)) ≡ onNode (treeOf (now (table .entry))) (images (now (bridges .entry)) (now (devices .entry))) i (λ part. resetPart (treeOf (now (table .entry)) .node i)) ⌝ }
 {
+    let count = count_of(table);
     if i < count {
-        let n = rack::table::node_at(words, i as usize);
-        let place = rack::table::place_at(words, i as usize) as usize;
+        let n = rack::table::node_at(table, i as usize);
+        let place = rack::table::place_at(table, i as usize) as usize;
         let kind = n.kind;
         if rack::is_bridge(kind) {
             reset_at(bridges, place, n);
@@ -40,12 +43,13 @@ fn reset_node(words: &[u64; 192], count: u8, bridges: &mut [u8], devices: &mut [
     }
 }
 
-pub fn reset_images(words: &[u64; 192], count: u8, bridges: &mut [u8], devices: &mut [u8])
-    ensures { λ _. ⌜ images (now (bridges .exit)) (now (devices .exit)) ≡ resetImages (treeOf count (now (words .entry))) (images (now (bridges .entry)) (now (devices .entry))) ⌝ }
+pub fn reset_images(table: &Table, bridges: &mut [u8], devices: &mut [u8])
+    ensures { λ _. ⌜ images (now (bridges .exit)) (now (devices .exit)) ≡ resetImages (treeOf (now (table .entry))) (images (now (bridges .entry)) (now (devices .entry))) ⌝ }
 {
+    let count = count_of(table);
     let mut i: u8 = 0;
     while i < count {
-        reset_node(words, count, bridges, devices, i);
+        reset_node(table, bridges, devices, i);
         i += 1;
     }
 }

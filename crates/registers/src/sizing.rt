@@ -8,6 +8,8 @@ ghost use Rattle.header.specs.Sizing.{regionRegister, sizePart};
 ghost use Rattle.registers.specs.Image.{images, partOf};
 ghost use Rattle.registers.specs.Sizing.{sizeRegion};
 use rack::Node;
+use rack::table::Table;
+use rack::table::count_of;
 
 fn size_at(image: &mut [u8], place: usize, n: Node, kind: u8, r: u8) -> u64
     requires { ⌜ (isBridge (n .kind) ≡ false) × (r < 3) ⌝ }
@@ -20,24 +22,17 @@ fn size_at(image: &mut [u8], place: usize, n: Node, kind: u8, r: u8) -> u64
 }
 
 // The size of a device's region, 0 where there is none. Both images are at exit what they were.
-pub fn size_region(
-    words: &[u64; 192],
-    count: u8,
-    bridges: &mut [u8],
-    devices: &mut [u8],
-    i: u8,
-    r: u8,
-) -> u64
-    ensures { λ s. ⌜ (s ≡ sizeRegion (treeOf count (now (words .entry))) (images (now (bridges .entry)) (now (devices .entry))) i r) × (images (now (bridges .exit)) (now (devices .exit)) ≡ images (now (bridges .entry)) (now (devices .entry))) ⌝ }
+pub fn size_region(table: &Table, bridges: &mut [u8], devices: &mut [u8], i: u8, r: u8) -> u64
+    ensures { λ s. ⌜ (s ≡ sizeRegion (treeOf (now (table .entry))) (images (now (bridges .entry)) (now (devices .entry))) i r) × (images (now (bridges .exit)) (now (devices .exit)) ≡ images (now (bridges .entry)) (now (devices .entry))) ⌝ }
 {
-    if i < count {
-        let n = rack::table::node_at(words, i as usize);
+    if i < count_of(table) {
+        let n = rack::table::node_at(table, i as usize);
         let kind = n.kind;
         if rack::is_bridge(kind) {
             return 0;
         }
         if r < 3 {
-            let place = rack::table::place_at(words, i as usize) as usize;
+            let place = rack::table::place_at(table, i as usize) as usize;
             let at = r as usize;
             let region = n.regions[at];
             return size_at(devices, place, n, region.kind, r);

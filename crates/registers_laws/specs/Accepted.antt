@@ -11,7 +11,7 @@ use lib.ListN.{length, getD}
 use borrow.Author.Tests.{eqb-true, eqb-false, eq-eqb, not-false}
 use Rattle.rack.specs.declared.Node.{Node}
 use Rattle.rack.specs.Tree.{Tree}
-use Rattle.rack.specs.Placed.{Placed}
+use Rattle.rack.specs.Stored.{Stored}
 use Rattle.header.specs.declared.Side.{Side}
 use Rattle.header.specs.declared.StatusBit.{StatusBit}
 use Rattle.header.specs.Mask.{fixedMask, resetByte}
@@ -119,7 +119,7 @@ module _ (t : Tree) (im : Images) where
   accepts a h = rw (a, right-fixed h)
 
 -- a change of one node's part that keeps its length and its fixed bits keeps images accepted
-pub on-accepted : (t : Tree) (im : Images) (i : ℕ) (f : List ℕ → List ℕ) → Placed t → imageRefusal t im ≡ 0
+pub on-accepted : (t : Tree) (im : Images) (i : ℕ) (f : List ℕ → List ℕ) → Stored t → imageRefusal t im ≡ 0
     → length (f (view t im i)) ≡ length (view t im i)
     → ((at : ℕ) → bitAnd (getD (f (view t im i)) at 0) (fixedMask (t .node i) at)
     ≡ bitAnd (getD (view t im i) at 0) (fixedMask (t .node i) at))
@@ -138,14 +138,14 @@ on-accepted t im i f pl e long same =
     (λ q. rw (view-other t im i f hf pl (a .0) j (eqb-false j i q)) (a .1 j hj at ha)))
 
 -- a register write keeps images accepted, also one of a missing node
-pub write-accepted : (t : Tree) (im : Images) (i register enables put : ℕ) → Placed t → imageRefusal t im ≡ 0
+pub write-accepted : (t : Tree) (im : Images) (i register enables put : ℕ) → Stored t → imageRefusal t im ≡ 0
     → imageRefusal t (writeNode t im i register enables put) ≡ 0
 write-accepted t im i register enables put pl e =
     on-accepted t im i (λ part. writeRegister (t .node i) part register enables put) pl e
     (write-length (t .node i) (view t im i) register enables put) (write-fixed (t .node i) (view t im i) register enables put)
 
 -- a status bit keeps images accepted, also one of a missing node
-pub status-accepted : (t : Tree) (im : Images) (i : ℕ) (side : Side) (bit : StatusBit) → Placed t → imageRefusal t im ≡ 0
+pub status-accepted : (t : Tree) (im : Images) (i : ℕ) (side : Side) (bit : StatusBit) → Stored t → imageRefusal t im ≡ 0
     → imageRefusal t (statusNode t im i side bit) ≡ 0
 status-accepted t im i side bit pl e =
     on-accepted t im i (λ part. setStatus (t .node i) part side bit) pl e

@@ -12,8 +12,8 @@ use borrow.Author.Tests.{lt-ltb, le-ltb, ltb-true, ltb-false, eqb-true, eq-eqb, 
 use Rattle.rack.specs.declared.Kind.{Kind}
 use Rattle.rack.specs.declared.Kind.the-variants.{Bridge, Device}
 use Rattle.rack.specs.Node.{isBridge}
-use Rattle.rack.specs.Tree.{Tree, bridgeCount}
-use Rattle.rack.specs.Placed.{Placed, imageCount}
+use Rattle.rack.specs.Tree.{Tree, bridgeCount, imageCount}
+use Rattle.rack.specs.Stored.{Stored}
 use Rattle.registers.specs.Image.{Images, imageOf, withImage, partOf, onPart, view, onNode}
 use Rattle.registers.specs.Fixed.{lengthsWrong}
 use Rattle.rack.specs.Bools.{tested}
@@ -88,7 +88,7 @@ module _ (im : Images) (p : ℕ) (f : List ℕ → List ℕ) where
   changed-other Device Bridge q h ne = refl
   changed-other Device Device q h ne = on-other (im .devices) p f h q (ne refl)
 
-module _ (t : Tree) (im : Images) (pl : Placed t) (right : lengthsWrong t im ≡ false) where
+module _ (t : Tree) (im : Images) (pl : Stored t) (right : lengthsWrong t im ≡ false) where
   -- a node's place is in its image
   pub fits : (i : ℕ) → i < t .count → t .place i < length (imageOf im (t .node i .kind)) / 64
   fits i h = omega (arith, pl .below i h, lengths-right t im right (t .node i .kind))
@@ -116,7 +116,7 @@ module _ (t : Tree) (im : Images) (i : ℕ) (f : List ℕ → List ℕ) (hf : i 
   pub on-right : lengthsWrong t im ≡ false → lengthsWrong t (onNode t im i f) ≡ false
   on-right r = right-lengths t (onNode t im i f) (λ k. on-lengths k ∙ lengths-right t im r k)
 
-  module _ (pl : Placed t) (right : lengthsWrong t im ≡ false) where
+  module _ (pl : Stored t) (right : lengthsWrong t im ≡ false) where
     -- the node's view is changed
     pub view-same : i < t .count → view t (onNode t im i f) i ≡ f (view t im i)
     unfolding changed

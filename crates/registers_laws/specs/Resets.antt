@@ -9,7 +9,7 @@ use lib.Dec.{eqb}
 use lib.Bits.{bitAnd}
 use borrow.Author.Tests.{eqb-true, eqb-false}
 use Rattle.rack.specs.Tree.{Tree}
-use Rattle.rack.specs.Placed.{Placed}
+use Rattle.rack.specs.Stored.{Stored}
 use Rattle.header.specs.Mask.{fixedMask}
 use Rattle.registers.specs.Image.{Images, view, onNode}
 use Rattle.registers.specs.Fixed.{lengthsWrong, imageRefusal}
@@ -19,7 +19,7 @@ use Rattle.registers_laws.specs.Images.{on-right, view-same, view-other}
 use Rattle.registers_laws.specs.Registers.{reset-length, reset-at}
 use Rattle.registers_laws.specs.Accepted.{right-byte, accepts}
 
-module _ (t : Tree) (pl : Placed t) where
+module _ (t : Tree) (pl : Stored t) where
   atReset : ℕ → List ℕ → List ℕ
   atReset i part = resetPart (t .node i)
 

@@ -18,8 +18,8 @@ use Rattle.rack.specs.Node.{isBridge, regionIn}
 use Rattle.rack.specs.Tree.{Tree, tree}
 use Rattle.rack.specs.Refusal.{regionRange, regionsRange, badRegion, rackRefusal}
 use Rattle.rack_laws.specs.Sound.{in-range}
-use Rattle.rack_laws.specs.Places.{accepted-placed}
-use Rattle.rack.specs.Placed.{Placed}
+use Rattle.rack_laws.specs.Stored.{accepted-stored}
+use Rattle.rack.specs.Stored.{Stored}
 use Rattle.header.specs.Offset.{BASE-ADDRESS}
 use Rattle.header.specs.Byte.{writtenByte}
 use Rattle.header.specs.Mask.{inRegion, byteOf, regionWrite, regionReset, writeMask, clearMask, fixedMask, resetByte}
@@ -129,7 +129,7 @@ module _ (t : Tree) (im : Images) (i r : ℕ) where
   region-none h d k = rw (lt-ltb i (t .count) h, d, k) (kind-none (t .node i) (view t im i) (regionRegister r))
 
   -- on accepted images a device's region in its range has the size 2 to its exponent
-  pub region-size : Placed t → imageRefusal t im ≡ 0 → i < t .count → isBridge (t .node i .kind) ≡ false → r < 3
+  pub region-size : Stored t → imageRefusal t im ≡ 0 → i < t .count → isBridge (t .node i .kind) ≡ false → r < 3
       → InRange (regionIn (t .node i) r)
       → sizeRegion t im i r ≡ 2 ^ (regionIn (t .node i) r .exponent)
   unfolding sizeRegion
@@ -215,5 +215,5 @@ accepted-size rack im i r ok sound h d hr =
     ⊎-elim (λ z. rw (z) (region-none (tree rack) im i r h d z))
     (λ g.
     rw (ne-eqb (regionIn n r .kind) 0 (λ z. omega (arith, g .given)))
-    (region-size (tree rack) im i r (accepted-placed rack ok) sound h d hr g))
+    (region-size (tree rack) im i r (accepted-stored rack ok) sound h d hr g))
     (range-cases (regionIn n r) (three n r hr ranges))

@@ -2,9 +2,8 @@
 ghost use mathlib.Core.Path.{_≡_};
 ghost use Prim.Native.Nat.{_+_, _<_};
 ghost use Rattle.rack.specs.Table.{treeOf};
-ghost use Rattle.rack.specs.Refusal.{rackRefusal};
 ghost use Rattle.registers.specs.Image.{images};
-ghost use Rattle.steps.specs.Ending.{out};
+ghost use Rattle.steps.specs.End.{out};
 ghost use Rattle.routes.specs.Route.{busStep, bridgeStep, possible, from, configure, received, returned, driven, access};
 use crossing::byte_of;
 use crossing::crossed_by;
@@ -13,37 +12,41 @@ use crossing::turns_type0;
 use header::Side;
 use header::StatusBit;
 use header::offset::COMMAND;
+use rack::table::Table;
+use rack::table::deepest;
+use rack::table::depth_at;
 use steps::Access;
-use steps::Ending;
+use steps::End;
 use steps::Outcome;
+use steps::Route;
 use steps::Sight;
 use steps::look::look_on;
-use window::Range;
 
 // What a bus answers, at most `left` crossings from it.
 fn bus_step(
-    words: &[u64; 192],
-    count: u8,
+    table: &Table,
     bridges: &mut [u8],
     devices: &mut [u8],
-    host: Range,
     x: Access,
     bus: u8,
     driver: u8,
     type0: bool,
     left: usize,
-) -> Ending
+) -> Route
     requires { ⌜ left < 4096 ⌝ }
-    ensures { λ r. ⌜ out r (now (bridges .exit)) (now (devices .exit)) ≡ busStep (left + left + 1) (treeOf count (now (words .entry))) host x (images (now (bridges .entry)) (now (devices .entry))) bus driver type0 ⌝ }
+    ensures { λ r. ⌜ out r (now (bridges .exit)) (now (devices .exit)) ≡ busStep (left + left + 1) (treeOf (now (table .entry))) (images (now (bridges .entry)) (now (devices .entry))) x bus driver type0 ⌝ }
 {
-    let s = look_on(words, count, bridges, devices, host, x, bus, driver, type0);
+    let s = look_on(table, bridges, devices, x, bus, driver, type0);
     match s {
-        Sight::Ends(ending) => ending,
+        Sight::Ends(end) => Route { crossings: 0, end },
         Sight::Crosses(g) => {
             if left == 0 {
-                Ending::Silent
+                Route {
+                    crossings: 0,
+                    end: End::Silent,
+                }
             } else {
-                bridge_step(words, count, bridges, devices, host, x, bus, g, left - 1)
+                bridge_step(table, bridges, devices, x, bus, g, left - 1)
             }
         }
     }
@@ -51,108 +54,66 @@ fn bus_step(
 
 // What bridge g answers to what is driven on a bus beside it, at most `left` crossings from the other side.
 fn bridge_step(
-    words: &[u64; 192],
-    count: u8,
+    table: &Table,
     bridges: &mut [u8],
     devices: &mut [u8],
-    host: Range,
     x: Access,
     bus: u8,
     g: u8,
     left: usize,
-) -> Ending
+) -> Route
     requires { ⌜ left < 4096 ⌝ }
-    ensures { λ r. ⌜ out r (now (bridges .exit)) (now (devices .exit)) ≡ bridgeStep (left + left + 2) (treeOf count (now (words .entry))) host x (images (now (bridges .entry)) (now (devices .entry))) bus g ⌝ }
+    ensures { λ r. ⌜ out r (now (bridges .exit)) (now (devices .exit)) ≡ bridgeStep (left + left + 2) (treeOf (now (table .entry))) (images (now (bridges .entry)) (now (devices .entry))) x bus g ⌝ }
 {
-    let other = other_bus(words, count, bus, g);
-    let type0 = turns_type0(words, count, bridges, devices, x, bus, g);
-    let e = bus_step(
-        words,
-        count,
-        bridges,
-        devices,
-        host,
-        x,
-        other,
-        g,
-        type0,
-        left,
-    );
-    crossed_by(words, count, bridges, devices, x, bus, g, e)
+    let other = other_bus(table, bus, g);
+    let type0 = turns_type0(table, bridges, devices, x, bus, g);
+    let r = bus_step(table, bridges, devices, x, other, g, type0, left);
+    crossed_by(table, bridges, devices, x, bus, g, r)
 }
 
 // The crossings that are possible from a bus on.
-fn possible_from(words: &[u64; 192], count: u8, bus: u8) -> usize
-    requires { ⌜ rackRefusal (treeOf count (now words)) ≡ 0 ⌝ }
-    ensures { λ r. ⌜ (r ≡ possible (treeOf count (now (words .entry))) bus) × (r < 4096) ⌝ }
+fn possible_from(table: &Table, bus: u8) -> usize
+    ensures { λ r. ⌜ (r ≡ possible (treeOf (now (table .entry))) bus) × (r < 4096) ⌝ }
 {
-    depths::depth_of(words, count, bus) + depths::greatest_depth(words, count)
+    depth_at(table, bus) as usize + deepest(table) as usize
 }
 
 fn route_from(
-    words: &[u64; 192],
-    count: u8,
+    table: &Table,
     bridges: &mut [u8],
     devices: &mut [u8],
-    host: Range,
     x: Access,
     bus: u8,
     driver: u8,
     type0: bool,
-) -> Ending
-    requires { ⌜ rackRefusal (treeOf count (now words)) ≡ 0 ⌝ }
-    ensures { λ r. ⌜ out r (now (bridges .exit)) (now (devices .exit)) ≡ from (treeOf count (now (words .entry))) host x (images (now (bridges .entry)) (now (devices .entry))) bus driver type0 ⌝ }
+) -> Route
+    ensures { λ r. ⌜ out r (now (bridges .exit)) (now (devices .exit)) ≡ from (treeOf (now (table .entry))) (images (now (bridges .entry)) (now (devices .entry))) x bus driver type0 ⌝ }
 {
-    let left = possible_from(words, count, bus);
-    bus_step(
-        words,
-        count,
-        bridges,
-        devices,
-        host,
-        x,
-        bus,
-        driver,
-        type0,
-        left,
-    )
+    let left = possible_from(table, bus);
+    bus_step(table, bridges, devices, x, bus, driver, type0, left)
 }
 
 // A configuration access, which starts at the host.
 pub fn route_configuration(
-    words: &[u64; 192],
-    count: u8,
+    table: &Table,
     bridges: &mut [u8],
     devices: &mut [u8],
-    host: Range,
     x: Access,
-) -> Ending
-    requires { ⌜ rackRefusal (treeOf count (now words)) ≡ 0 ⌝ }
-    ensures { λ r. ⌜ out r (now (bridges .exit)) (now (devices .exit)) ≡ configure (treeOf count (now (words .entry))) host x (images (now (bridges .entry)) (now (devices .entry))) ⌝ }
+) -> Route
+    ensures { λ r. ⌜ out r (now (bridges .exit)) (now (devices .exit)) ≡ configure (treeOf (now (table .entry))) (images (now (bridges .entry)) (now (devices .entry))) x ⌝ }
 {
-    route_from(
-        words,
-        count,
-        bridges,
-        devices,
-        host,
-        x,
-        255,
-        255,
-        x.address == 0,
-    )
+    route_from(table, bridges, devices, x, 255, 255, x.address == 0)
 }
 
 // Bit 12 of an initiating device whose access came to a target abort.
-fn receive(words: &[u64; 192], count: u8, bridges: &mut [u8], devices: &mut [u8], i: u8, o: Outcome)
-    ensures { λ _. ⌜ images (now (bridges .exit)) (now (devices .exit)) ≡ received (treeOf count (now (words .entry))) i o (images (now (bridges .entry)) (now (devices .entry))) ⌝ }
+fn receive(table: &Table, bridges: &mut [u8], devices: &mut [u8], i: u8, o: Outcome)
+    ensures { λ _. ⌜ images (now (bridges .exit)) (now (devices .exit)) ≡ received (treeOf (now (table .entry))) (images (now (bridges .entry)) (now (devices .entry))) i o ⌝ }
 {
     match o {
         Outcome::Abort => {}
         Outcome::Done => {}
         Outcome::Target => registers::image::status_node(
-            words,
-            count,
+            table,
             bridges,
             devices,
             i,
@@ -162,78 +123,45 @@ fn receive(words: &[u64; 192], count: u8, bridges: &mut [u8], devices: &mut [u8]
     }
 }
 
-fn return_to(
-    words: &[u64; 192],
-    count: u8,
-    bridges: &mut [u8],
-    devices: &mut [u8],
-    i: u8,
-    e: Ending,
-)
-    ensures { λ _. ⌜ images (now (bridges .exit)) (now (devices .exit)) ≡ returned (treeOf count (now (words .entry))) i e (images (now (bridges .entry)) (now (devices .entry))) ⌝ }
+// What comes back to an initiating device.
+fn return_to(table: &Table, bridges: &mut [u8], devices: &mut [u8], i: u8, e: End)
+    ensures { λ _. ⌜ images (now (bridges .exit)) (now (devices .exit)) ≡ returned (treeOf (now (table .entry))) (images (now (bridges .entry)) (now (devices .entry))) i e ⌝ }
 {
-    match e {
-        Ending::Data { crossings, value } => {}
-        Ending::Stored { crossings } => {}
-        Ending::Owner {
-            crossings,
-            node,
-            region,
-            offset,
-        } => {}
-        Ending::Host { crossings, offset } => {}
-        Ending::Unclaimed {
-            crossings,
-            holder,
-            outcome,
-        } => receive(words, count, bridges, devices, i, outcome),
-        Ending::Clash {
-            crossings,
-            holder,
-            first,
-            second,
-        } => {}
-        Ending::Silent => {}
-    }
+    let End::Unclaimed { holder, outcome } = e else {
+        return;
+    };
+    receive(table, bridges, devices, i, outcome);
 }
 
 // The access of a device that drives: from the bus it sits on.
-fn route_device(
-    words: &[u64; 192],
-    count: u8,
-    bridges: &mut [u8],
-    devices: &mut [u8],
-    host: Range,
-    x: Access,
-    i: u8,
-) -> Ending
-    requires { ⌜ rackRefusal (treeOf count (now words)) ≡ 0 ⌝ }
-    ensures { λ r. ⌜ out r (now (bridges .exit)) (now (devices .exit)) ≡ driven (treeOf count (now (words .entry))) host x (images (now (bridges .entry)) (now (devices .entry))) i ⌝ }
+fn route_device(table: &Table, bridges: &mut [u8], devices: &mut [u8], x: Access, i: u8) -> Route
+    ensures { λ r. ⌜ out r (now (bridges .exit)) (now (devices .exit)) ≡ driven (treeOf (now (table .entry))) (images (now (bridges .entry)) (now (devices .entry))) x i ⌝ }
 {
-    let bus = rack::table::parent_at(words, i);
-    let e = route_from(words, count, bridges, devices, host, x, bus, i, false);
-    return_to(words, count, bridges, devices, i, e);
-    e
+    let bus = rack::table::parent_at(table, i);
+    let r = route_from(table, bridges, devices, x, bus, i, false);
+    let end = r.end;
+    return_to(table, bridges, devices, i, end);
+    r
 }
 
 // A memory or I/O access of the host or of a device.
 pub fn route_access(
-    words: &[u64; 192],
-    count: u8,
+    table: &Table,
     bridges: &mut [u8],
     devices: &mut [u8],
-    host: Range,
     x: Access,
     i: u8,
-) -> Ending
-    requires { ⌜ rackRefusal (treeOf count (now words)) ≡ 0 ⌝ }
-    ensures { λ r. ⌜ out r (now (bridges .exit)) (now (devices .exit)) ≡ access (treeOf count (now (words .entry))) host x (images (now (bridges .entry)) (now (devices .entry))) i ⌝ }
+) -> Route
+    ensures { λ r. ⌜ out r (now (bridges .exit)) (now (devices .exit)) ≡ access (treeOf (now (table .entry))) (images (now (bridges .entry)) (now (devices .entry))) x i ⌝ }
 {
     if i == 255 {
-        return route_from(words, count, bridges, devices, host, x, 255, 255, false);
+        return route_from(table, bridges, devices, x, 255, 255, false);
     }
-    if byte_of(words, count, bridges, devices, i, COMMAND) / 4 % 2 == 1 {
-        return route_device(words, count, bridges, devices, host, x, i);
+    if byte_of(table, bridges, devices, i, COMMAND) / 4 % 2 == 1 {
+        return route_device(table, bridges, devices, x, i);
     }
-    Ending::Silent
+    Route {
+        crossings: 0,
+        end: End::Silent,
+    }
 }

@@ -1,21 +1,20 @@
--- A route changes nothing but status bits, except where it is a configuration write; accepted images stay accepted always.
+-- A route changes nothing but status bits, and leaves accepted images accepted.
 -- Assumes nothing.
-use mathlib.Core.Path.{_≡_, refl, sym, _∙_}
-use mathlib.Core.Bool.{Bool, true, false, true≢false}
+use mathlib.Core.Path.{_≡_}
+use mathlib.Core.Bool.{Bool, true, false}
 use Prim.Native.Nat.{ℕ, zero, suc, _+_}
 use lib.Dec.{eqb}
-use Rattle.rack.specs.Bools.{tested, both}
+use Rattle.rack.specs.Bools.{tested}
 use Rattle.rack.specs.Tree.{Tree, host, parentOf}
-use Rattle.rack.specs.Placed.{Placed}
+use Rattle.rack.specs.Stored.{Stored}
 use Rattle.header.specs.declared.Side.{Side}
 use Rattle.header.specs.declared.Side.the-variants.{Primary}
 use Rattle.header.specs.declared.StatusBit.{StatusBit}
 use Rattle.header.specs.declared.StatusBit.the-variants.{SignaledTargetAbort, ReceivedTargetAbort, ReceivedMasterAbort}
 use Rattle.header.specs.Offset.{COMMAND}
-use Rattle.registers.specs.Image.{Images, view, writeNode, statusNode}
+use Rattle.registers.specs.Image.{Images, view, statusNode}
 use Rattle.registers.specs.Fixed.{lengthsWrong, imageRefusal}
-use Rattle.registers_laws.specs.Accepted.{write-accepted, status-accepted}
-use Rattle.window.specs.declared.Range.{Range}
+use Rattle.registers_laws.specs.Accepted.{status-accepted}
 use Rattle.window.specs.Window.{bitAt}
 use Rattle.claims.specs.declared.Claimants.{Claimants}
 use Rattle.claims.specs.declared.Claimants.the-variants.{Nobody, One, Two}
@@ -24,48 +23,40 @@ use Rattle.claims_laws.specs.Apart.{SameButStatus, same-refl, same-trans, same-
 use Rattle.steps.specs.declared.Access.{Access}
 use Rattle.steps.specs.declared.Outcome.{Outcome}
 use Rattle.steps.specs.declared.Outcome.the-variants.{Abort, Done, Target}
-use Rattle.steps.specs.declared.Ending.{Ending}
-use Rattle.steps.specs.declared.Ending.the-variants.{Data, Stored, Owner, Host, Unclaimed, Clash, Silent}
+use Rattle.steps.specs.declared.End.{End}
 use Rattle.steps.specs.declared.Sight.{Sight}
 use Rattle.steps.specs.declared.Sight.the-variants.{Ends, Crosses}
-use Rattle.steps.specs.Ending.{Out}
-use Rattle.steps.specs.Look.{sideOn, masterAbort, unclaimed, claimed, served, direct, target, look}
-use Rattle.steps.specs.Cross.{otherBus, isConfiguration, turnsType0, towardsLater, lastOutcome, signalled, lastImages, passed, crossed}
-use Rattle.routes.specs.Route.{follow, busStep, bridgeStep, possible, from, configure, returned, access}
+use Rattle.steps.specs.End.{Out, ifUnclaimed}
+use Rattle.steps.specs.EndLaws.{by-end}
+use Rattle.steps.specs.Look.{sideOn, masterAbort, unclaimed, claimed, direct, target, look}
+use Rattle.steps.specs.Cross.{otherBus, turnsType0, towardsLater, lastOutcome, signalled, lastImages, passed, passedImages, crossed}
+use Rattle.routes.specs.Route.{follow, busStep, bridgeStep, possible, from, configure, received, returned, access}
 
--- a relation of images that holds over every status bit set and, where stores are allowed, over every write holds over a route
-module _ (t : Tree) (h : Range) (x : Access) (R : Images → Images → Type 0) (stay : (im : Images) → R im im)
+-- a relation of images that holds over every status bit set holds over a route
+module _ (t : Tree) (x : Access) (R : Images → Images → Type 0) (stay : (im : Images) → R im im)
     (chain : (u v w : Images) → R u v → R v w → R u w)
-    (status : (im : Images) (i : ℕ) (side : Side) (bit : StatusBit) → R im (statusNode t im i side bit)) (Stores : Type 0)
-    (store : Stores → (im : Images) (g : ℕ) → x .write ≡ true → R im (writeNode t im g (x .register) (x .enables) (x .«data»)))
-    (allowed : isConfiguration (x .space) ≡ true → Stores) where
+    (status : (im : Images) (i : ℕ) (side : Side) (bit : StatusBit) → R im (statusNode t im i side bit)) where
   abort-keeps : (im : Images) (bus driver : ℕ) → R im (masterAbort t im bus driver)
   unfolding masterAbort
   abort-keeps im bus driver =
       tested (eqb driver host) (λ q. rw q (stay im)) (λ q. rw q (status im driver (sideOn bus driver) ReceivedMasterAbort))
 
-  claimed-keeps : (im : Images) (bus driver : ℕ) (c : Claimants) → R im (claimed t h im x bus driver c .after)
+  claimed-keeps : (im : Images) (bus driver : ℕ) (c : Claimants) → R im (claimed t im x bus driver c .after)
   unfolding claimed unclaimed
   claimed-keeps im bus driver Nobody = abort-keeps im bus driver
   claimed-keeps im bus driver (One g) = stay im
   claimed-keeps im bus driver (Two y z) = stay im
 
-  served-keeps : Stores → (im : Images) (g : ℕ) → R im (served t im x g .after)
-  unfolding served
-  served-keeps s im g = tested (x .write) (λ q. rw q (store s im g q)) (λ q. rw q (stay im))
-
-  direct-keeps : Stores → (im : Images) (bus driver : ℕ) → R im (direct t im x bus driver .after)
+  direct-keeps : (im : Images) (bus driver : ℕ) → R im (direct t im x bus driver .after)
   unfolding direct unclaimed
-  direct-keeps s im bus driver =
-      tested (eqb (target t bus (x .device)) 255) (λ q. rw q (abort-keeps im bus driver))
-      (λ q. rw q (served-keeps s im (target t bus (x .device))))
+  direct-keeps im bus driver =
+      tested (eqb (target t bus (x .device)) 255) (λ q. rw q (abort-keeps im bus driver)) (λ q. rw q (stay im))
 
-  look-keeps : (im : Images) (bus driver : ℕ) (type0 : Bool) → (type0 ≡ true → Stores)
-      → R im (look t h im x bus driver type0 .after)
+  look-keeps : (im : Images) (bus driver : ℕ) (type0 : Bool) → R im (look t im x bus driver type0 .after)
   unfolding look
-  look-keeps im bus driver true s = direct-keeps (s refl) im bus driver
-  look-keeps im bus driver false s =
-      claimed-keeps im bus driver (firstTwo (claimants t h im (x .space) bus driver (x .address)))
+  look-keeps im bus driver true = direct-keeps im bus driver
+  look-keeps im bus driver false =
+      claimed-keeps im bus driver (firstTwo (claimants t im (x .space) bus driver (x .address)))
 
   follow-keeps : (im : Images) (cross : ℕ → Images → Out) (s : Sight) (v : Images) → R im v
       → ((g : ℕ) (u : Images) → R u (cross g u .after)) → R im (follow cross s v .after)
@@ -81,73 +72,57 @@ module _ (t : Tree) (h : Range) (x : Access) (R : Images → Images → Type 0) 
   last-keeps im bus g Done = stay im
   last-keeps im bus g Target = signalled-keeps im bus g
 
-  passed-keeps : (im : Images) (bus g c k : ℕ) (o : Outcome) → R im (passed t im x bus g c k o .after)
+  passed-keeps : (im : Images) (bus g : ℕ) (o : Outcome) → R im (passed t im x bus g o .after)
   unfolding passed
-  passed-keeps im bus g c k Abort = last-keeps im bus g (lastOutcome t im x g)
-  passed-keeps im bus g c k Done = stay im
-  passed-keeps im bus g c k Target =
+  passed-keeps im bus g Abort = last-keeps im bus g (lastOutcome t im x g)
+  passed-keeps im bus g Done = stay im
+  passed-keeps im bus g Target =
       let v = statusNode t im g (towardsLater bus g) ReceivedTargetAbort in
       chain im v (signalled t v bus g) (status im g (towardsLater bus g) ReceivedTargetAbort) (signalled-keeps v bus g)
 
-  crossed-keeps : (im : Images) (bus g : ℕ) (e : Ending) → R im (crossed t im x bus g e .after)
-  unfolding crossed
-  crossed-keeps im bus g (Data c v) = stay im
-  crossed-keeps im bus g (Stored c) = stay im
-  crossed-keeps im bus g (Owner c n r o) = stay im
-  crossed-keeps im bus g (Host c o) = stay im
-  crossed-keeps im bus g (Unclaimed c k o) = passed-keeps im bus g c k o
-  crossed-keeps im bus g (Clash c k y z) = stay im
-  crossed-keeps im bus g Silent = stay im
+  -- what is made of an unclaimed access alone
+  unclaimed-keeps : (im : Images) (f : ℕ → Outcome → Images) (e : End) → ((holder : ℕ) (o : Outcome) → R im (f holder o))
+      → R im (ifUnclaimed f im e)
+  unfolding ifUnclaimed
+  unclaimed-keeps im f e k =
+      by-end e (λ holder o q. rw q (k holder o)) (λ other. rw (other Images f im) (stay im))
 
-  turned : (im : Images) (bus g : ℕ) → turnsType0 t im x bus g ≡ true → Stores
-  unfolding turnsType0
-  turned im bus g e = allowed (both (isConfiguration (x .space)) _ e .0)
-
-  bus-keeps : (n : ℕ) (im : Images) (bus driver : ℕ) (type0 : Bool) → (type0 ≡ true → Stores)
-      → R im (busStep n t h x im bus driver type0 .after)
-  unfolding busStep
-  bus-keeps zero im bus driver type0 s = stay im
-  bus-keeps (suc zero) im bus driver type0 s =
-      follow-keeps im (λ g v. bridgeStep 0 t h x v bus g) (look t h im x bus driver type0 .sight)
-      (look t h im x bus driver type0 .after) (look-keeps im bus driver type0 s) (λ g u. stay u)
-  bus-keeps (suc (suc n)) im bus driver type0 s =
-      follow-keeps im (λ g v. bridgeStep (suc n) t h x v bus g) (look t h im x bus driver type0 .sight)
-      (look t h im x bus driver type0 .after) (look-keeps im bus driver type0 s)
+  bus-keeps : (n : ℕ) (im : Images) (bus driver : ℕ) (type0 : Bool) → R im (busStep n t im x bus driver type0 .after)
+  unfolding busStep crossed
+  bus-keeps zero im bus driver type0 = stay im
+  bus-keeps (suc zero) im bus driver type0 =
+      follow-keeps im (λ g v. bridgeStep 0 t v x bus g) (look t im x bus driver type0 .sight)
+      (look t im x bus driver type0 .after) (look-keeps im bus driver type0) (λ g u. stay u)
+  bus-keeps (suc (suc n)) im bus driver type0 =
+      follow-keeps im (λ g v. bridgeStep (suc n) t v x bus g) (look t im x bus driver type0 .sight)
+      (look t im x bus driver type0 .after) (look-keeps im bus driver type0)
       (λ g u.
-      let o = busStep n t h x u (otherBus t bus g) g (turnsType0 t u x bus g) in
-      chain u (o .after) (crossed t (o .after) x bus g (o .ending) .after)
-      (bus-keeps n u (otherBus t bus g) g (turnsType0 t u x bus g) (turned u bus g)) (crossed-keeps (o .after) bus g (o .ending)))
+      let o = busStep n t u x (otherBus t bus g) g (turnsType0 t u x bus g) in
+      chain u (o .after) (passedImages t (o .after) x bus g (o .route .end))
+      (bus-keeps n u (otherBus t bus g) g (turnsType0 t u x bus g))
+      (unclaimed-keeps (o .after) _ (o .route .end) (λ holder p. passed-keeps (o .after) bus g p)))
 
-  returned-keeps : (im : Images) (i : ℕ) (e : Ending) → R im (returned t i e im)
-  unfolding returned
-  returned-keeps im i (Data c v) = stay im
-  returned-keeps im i (Stored c) = stay im
-  returned-keeps im i (Owner c n r o) = stay im
-  returned-keeps im i (Host c o) = stay im
-  returned-keeps im i (Unclaimed c k Abort) = stay im
-  returned-keeps im i (Unclaimed c k Done) = stay im
-  returned-keeps im i (Unclaimed c k Target) = status im i Primary ReceivedTargetAbort
-  returned-keeps im i (Clash c k y z) = stay im
-  returned-keeps im i Silent = stay im
+  received-keeps : (im : Images) (i : ℕ) (o : Outcome) → R im (received t im i o)
+  received-keeps im i Abort = stay im
+  received-keeps im i Done = stay im
+  received-keeps im i Target = status im i Primary ReceivedTargetAbort
 
-  configure-keeps : Stores → (im : Images) → R im (configure t h x im .after)
+  configure-keeps : (im : Images) → R im (configure t im x .after)
   unfolding configure
-  configure-keeps s im = bus-keeps (possible t host + possible t host + 1) im host host (eqb (x .address) 0) (λ e. s)
+  configure-keeps im = bus-keeps (possible t host + possible t host + 1) im host host (eqb (x .address) 0)
 
-  access-keeps : (im : Images) (i : ℕ) → R im (access t h x im i .after)
-  unfolding access
+  access-keeps : (im : Images) (i : ℕ) → R im (access t im x i .after)
+  unfolding access returned
   access-keeps im i =
-      tested (eqb i host)
-      (λ a. rw a (bus-keeps (possible t host + possible t host + 1) im host host false (λ e. absurd (true≢false (sym e)))))
+      tested (eqb i host) (λ a. rw a (bus-keeps (possible t host + possible t host + 1) im host host false))
       (λ a.
       tested (bitAt (view t im i) COMMAND 2)
       (λ b.
-      let o = from t h x im (parentOf t i) i false in
+      let o = from t im x (parentOf t i) i false in
       rw (a, b)
-      (chain im (o .after) (returned t i (o .ending) (o .after))
-      (bus-keeps (possible t (parentOf t i) + possible t (parentOf t i) + 1) im (parentOf t i) i false
-      (λ e. absurd (true≢false (sym e))))
-      (returned-keeps (o .after) i (o .ending))))
+      (chain im (o .after) (returned t (o .after) i (o .route .end))
+      (bus-keeps (possible t (parentOf t i) + possible t (parentOf t i) + 1) im (parentOf t i) i false)
+      (unclaimed-keeps (o .after) _ (o .route .end) (λ holder p. received-keeps (o .after) i p))))
       (λ b. rw (a, b) (stay im)))
 
 -- images whose lengths are right differ in status bits alone
@@ -158,7 +133,7 @@ Calm t u v = lengthsWrong t u ≡ false → SameButStatus t u v
 Sound : Tree → Images → Images → Type 0
 Sound t u v = imageRefusal t u ≡ 0 → imageRefusal t v ≡ 0
 
-module _ (t : Tree) (pl : Placed t) (h : Range) (x : Access) where
+module _ (t : Tree) (pl : Stored t) (x : Access) where
   calm-stay : (im : Images) → Calm t im im
   unfolding Calm
   calm-stay im r = same-refl t im
@@ -171,30 +146,21 @@ module _ (t : Tree) (pl : Placed t) (h : Range) (x : Access) where
   unfolding Calm
   calm-status im i side bit r = status-same t im i side bit pl r
 
-  calm-store : x .write ≡ false → (im : Images) (g : ℕ) → x .write ≡ true
-      → Calm t im (writeNode t im g (x .register) (x .enables) (x .«data»))
-  calm-store off im g on = absurd (true≢false (sym on ∙ off))
-
   module _ (im : Images) (right : lengthsWrong t im ≡ false) where
-    -- a route that stores nothing changes status bits alone
-    pub bus-same : (isConfiguration (x .space) ≡ true → x .write ≡ false) → (n bus driver : ℕ) (type0 : Bool)
-        → (type0 ≡ true → x .write ≡ false) → SameButStatus t im (busStep n t h x im bus driver type0 .after)
+    -- a route changes status bits alone
+    pub bus-same : (n bus driver : ℕ) (type0 : Bool) → SameButStatus t im (busStep n t im x bus driver type0 .after)
     unfolding Calm
-    bus-same off n bus driver type0 s =
-        bus-keeps t h x (Calm t) calm-stay calm-chain calm-status (x .write ≡ false) calm-store off n im bus driver type0 s right
+    bus-same n bus driver type0 = bus-keeps t x (Calm t) calm-stay calm-chain calm-status n im bus driver type0 right
 
-    -- so does a configuration read
-    pub configure-same : x .write ≡ false → SameButStatus t im (configure t h x im .after)
+    -- so does a configuration access
+    pub configure-same : SameButStatus t im (configure t im x .after)
     unfolding Calm
-    configure-same off =
-        configure-keeps t h x (Calm t) calm-stay calm-chain calm-status (x .write ≡ false) calm-store (λ e. off) off im right
+    configure-same = configure-keeps t x (Calm t) calm-stay calm-chain calm-status im right
 
     -- and a memory or I/O access, whoever starts it
-    pub access-same : (isConfiguration (x .space) ≡ true → x .write ≡ false) → (i : ℕ)
-        → SameButStatus t im (access t h x im i .after)
+    pub access-same : (i : ℕ) → SameButStatus t im (access t im x i .after)
     unfolding Calm
-    access-same off i =
-        access-keeps t h x (Calm t) calm-stay calm-chain calm-status (x .write ≡ false) calm-store off im i right
+    access-same i = access-keeps t x (Calm t) calm-stay calm-chain calm-status im i right
 
   sound-stay : (im : Images) → Sound t im im
   unfolding Sound
@@ -208,27 +174,18 @@ module _ (t : Tree) (pl : Placed t) (h : Range) (x : Access) where
   unfolding Sound
   sound-status im i side bit e = status-accepted t im i side bit pl e
 
-  sound-store : Unit {0} → (im : Images) (g : ℕ) → x .write ≡ true
-      → Sound t im (writeNode t im g (x .register) (x .enables) (x .«data»))
-  unfolding Sound
-  sound-store s im g on e = write-accepted t im g (x .register) (x .enables) (x .«data») pl e
-
   module _ (im : Images) (sound : imageRefusal t im ≡ 0) where
     -- a route leaves accepted images accepted
-    pub bus-accepted : (n bus driver : ℕ) (type0 : Bool) → imageRefusal t (busStep n t h x im bus driver type0 .after) ≡ 0
+    pub bus-accepted : (n bus driver : ℕ) (type0 : Bool) → imageRefusal t (busStep n t im x bus driver type0 .after) ≡ 0
     unfolding Sound
-    bus-accepted n bus driver type0 =
-        bus-keeps t h x (Sound t) sound-stay sound-chain sound-status (Unit {0}) sound-store (λ e. tt) n im bus driver type0
-        (λ e. tt) sound
+    bus-accepted n bus driver type0 = bus-keeps t x (Sound t) sound-stay sound-chain sound-status n im bus driver type0 sound
 
     -- so does a configuration access
-    pub configure-accepted : imageRefusal t (configure t h x im .after) ≡ 0
+    pub configure-accepted : imageRefusal t (configure t im x .after) ≡ 0
     unfolding Sound
-    configure-accepted =
-        configure-keeps t h x (Sound t) sound-stay sound-chain sound-status (Unit {0}) sound-store (λ e. tt) tt im sound
+    configure-accepted = configure-keeps t x (Sound t) sound-stay sound-chain sound-status im sound
 
     -- and any other access, whoever starts it
-    pub access-accepted : (i : ℕ) → imageRefusal t (access t h x im i .after) ≡ 0
+    pub access-accepted : (i : ℕ) → imageRefusal t (access t im x i .after) ≡ 0
     unfolding Sound
-    access-accepted i =
-        access-keeps t h x (Sound t) sound-stay sound-chain sound-status (Unit {0}) sound-store (λ e. tt) im i sound
+    access-accepted i = access-keeps t x (Sound t) sound-stay sound-chain sound-status im i sound

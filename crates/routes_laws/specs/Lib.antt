@@ -1,6 +1,6 @@
 pub mod Takers
+pub mod Failing
 pub mod Possible
-pub mod Numbers
 pub mod Silent
 pub mod Changes
-pub mod NoClash
+pub mod Arrives

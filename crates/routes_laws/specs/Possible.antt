@@ -1,35 +1,33 @@
 -- In an accepted rack the number is never spent: once it allows the crossings that are possible, it plays no part.
 -- Assumes nothing.
 use mathlib.Core.Path.{_≡_, refl, sym, ap, _∙_}
-use mathlib.Core.Bool.{Bool, true}
+use mathlib.Core.Bool.{Bool}
 use mathlib.Core.Logic.{_⊎_, inl, inr, ⊎-elim}
 use Prim.Native.Nat.{ℕ, zero, suc, _+_, _-_, _≤_, _<_}
-use native.Mathlib.Nat.{le-refl}
 use native.Mathlib.Omega.{arith}
 use lib.Dec.{eqb}
 use borrow.Author.Tests.{eq-eqb, ne-eqb}
-use Rattle.rack.specs.Node.{isBridge}
-use Rattle.rack.specs.Tree.{Tree, host, parentOf, depth, greatestDepth}
+use Rattle.rack.specs.Tree.{Tree, host, parentOf, IsBus, depth, greatestDepth}
+use Rattle.rack.specs.Stored.{Stored}
 use Rattle.rack.specs.Refusal.{rackRefusal}
 use Rattle.rack_laws.specs.Sound.{parent-is, not-own}
 use Rattle.rack_laws.specs.Depths.{depth-step, depth-root, depth-greatest}
 use Rattle.registers.specs.Image.{Images}
-use Rattle.window.specs.declared.Range.{Range}
 use Rattle.steps.specs.declared.Access.{Access}
-use Rattle.steps.specs.Ending.{Out, crossingsOf}
+use Rattle.steps.specs.End.{Out}
 use Rattle.steps.specs.Look.{look}
 use Rattle.steps.specs.Cross.{otherBus, turnsType0, crossed}
 use Rattle.routes.specs.Route.{busStep, bridgeStep, possible, from, configure}
 use Rattle.routes.specs.StepLaws.{bus-le}
 use Rattle.routes_laws.specs.Takers.{Taken, look-follows, follow-same}
 
--- a bus of the rack: the root bus or a bridge's
-abbrev pub IsBus : Tree → ℕ → Type 0
-IsBus t bus = (bus ≡ host) ⊎ ((bus < t .count) × (isBridge (t .node bus .kind) ≡ true))
+-- the crossings that are possible by the depths that are stored are those of the depths themselves
+pub possible-is : (t : Tree) → Stored t → (bus : ℕ) → IsBus t bus → possible t bus ≡ depth t bus + greatestDepth t
+possible-is t st bus is = omega (arith, st .depth-is bus is, st .deepest-is)
 
 -- crossings that are enough: all the way up and down, or, where the bus's holder drives, the way down
 abbrev pub Enough : Tree → ℕ → ℕ → ℕ → Type 0
-Enough t bus driver m = (possible t bus ≤ m) ⊎ ((driver ≡ bus) × (greatestDepth t ≤ depth t bus + m))
+Enough t bus driver m = (depth t bus + greatestDepth t ≤ m) ⊎ ((driver ≡ bus) × (greatestDepth t ≤ depth t bus + m))
 
 -- what is left behind a bridge that takes the access on
 pub record Onward (t : Tree) (bus m g : ℕ) : Type 0 where
@@ -60,7 +58,7 @@ module _ (t : Tree) (ok : rackRefusal t ≡ 0) where
         (λ q.
         let p : otherBus t bus g ≡ parentOf t bus = other-up t bus g e in
         let b : IsBus t (parentOf t bus) = parent-bus bus (r .0) in
-        let n : possible t (parentOf t bus) ≤ m - 1 = omega arith in
+        let n : depth t (parentOf t bus) + greatestDepth t ≤ m - 1 = omega arith in
         record { left = λ z. omega arith; place = rw p b; enough = inl (rw p n) })
         (λ q. absurd (k .other (e ∙ sym (q .0))))
         en)
@@ -79,68 +77,70 @@ module _ (t : Tree) (ok : rackRefusal t ≡ 0) where
     pub onward : Onward t bus m g
     onward = ⊎-elim (λ e. up e) (λ e. down e) (k .agent)
 
-  module _ (h : Range) (x : Access) where
+  module _ (x : Access) where
     steps-same : (m m' : ℕ) (im : Images) (bus driver : ℕ) (type0 : Bool) → IsBus t bus → Enough t bus driver m
         → Enough t bus driver m'
-        → busStep (suc (m + m)) t h x im bus driver type0 ≡ busStep (suc (m' + m')) t h x im bus driver type0
+        → busStep (suc (m + m)) t im x bus driver type0 ≡ busStep (suc (m' + m')) t im x bus driver type0
     unfolding busStep
     steps-same zero m' im bus driver type0 is a b =
-        follow-same t bus driver im (λ g v. bridgeStep 0 t h x v bus g) (λ g v. bridgeStep (m' + m') t h x v bus g)
-        (look t h im x bus driver type0 .sight) (look t h im x bus driver type0 .after) (look-follows t bus h im x driver type0)
+        follow-same t bus driver im (λ g v. bridgeStep 0 t v x bus g) (λ g v. bridgeStep (m' + m') t v x bus g)
+        (look t im x bus driver type0 .sight) (look t im x bus driver type0 .after) (look-follows t bus im x driver type0)
         (λ g k. absurd (onward bus driver 0 g is a k .left refl))
     steps-same (suc m) zero im bus driver type0 is a b =
-        follow-same t bus driver im (λ g v. bridgeStep (suc m + suc m) t h x v bus g) (λ g v. bridgeStep 0 t h x v bus g)
-        (look t h im x bus driver type0 .sight) (look t h im x bus driver type0 .after) (look-follows t bus h im x driver type0)
+        follow-same t bus driver im (λ g v. bridgeStep (suc m + suc m) t v x bus g) (λ g v. bridgeStep 0 t v x bus g)
+        (look t im x bus driver type0 .sight) (look t im x bus driver type0 .after) (look-follows t bus im x driver type0)
         (λ g k. absurd (onward bus driver 0 g is b k .left refl))
     steps-same (suc m) (suc m') im bus driver type0 is a b =
         let p : suc m + suc m ≡ suc (suc (m + m)) = omega arith in
         let p' : suc m' + suc m' ≡ suc (suc (m' + m')) = omega arith in
         rw (p, p')
-        (follow-same t bus driver im (λ g v. bridgeStep (suc (suc (m + m))) t h x v bus g)
-        (λ g v. bridgeStep (suc (suc (m' + m'))) t h x v bus g) (look t h im x bus driver type0 .sight)
-        (look t h im x bus driver type0 .after) (look-follows t bus h im x driver type0)
+        (follow-same t bus driver im (λ g v. bridgeStep (suc (suc (m + m))) t v x bus g)
+        (λ g v. bridgeStep (suc (suc (m' + m'))) t v x bus g) (look t im x bus driver type0 .sight)
+        (look t im x bus driver type0 .after) (look-follows t bus im x driver type0)
         (λ g k.
         let o = onward bus driver (suc m) g is a k in
         let o' = onward bus driver (suc m') g is b k in
         let s : suc m - 1 ≡ m = omega arith in
         let s' : suc m' - 1 ≡ m' = omega arith in
-        ap (λ (out : Out). crossed t (out .after) x bus g (out .ending))
+        ap (λ (out : Out). crossed t (out .after) x bus g (out .route))
         (steps-same m m' im (otherBus t bus g) g (turnsType0 t im x bus g) (o .place) (rw s at (o .enough)) (rw s' at (o' .enough)))))
 
     -- once crossings are enough, their number plays no part
     pub enough-same : (left left' : ℕ) (im : Images) (bus driver : ℕ) (type0 : Bool) → IsBus t bus → Enough t bus driver left
         → Enough t bus driver left'
-        → busStep (left + left + 1) t h x im bus driver type0 ≡ busStep (left' + left' + 1) t h x im bus driver type0
+        → busStep (left + left + 1) t im x bus driver type0 ≡ busStep (left' + left' + 1) t im x bus driver type0
     enough-same left left' im bus driver type0 is a b =
         let p : left + left + 1 ≡ suc (left + left) = omega arith in
         let p' : left' + left' + 1 ≡ suc (left' + left') = omega arith in
         rw (p, p') (steps-same left left' im bus driver type0 is a b)
 
-    -- so are those that are possible, whoever drives
-    pub enough : (left left' : ℕ) (im : Images) (bus driver : ℕ) (type0 : Bool) → IsBus t bus → possible t bus ≤ left
-        → possible t bus ≤ left'
-        → busStep (left + left + 1) t h x im bus driver type0 ≡ busStep (left' + left' + 1) t h x im bus driver type0
+    -- all the way up and down is enough, whoever drives
+    pub enough : (left left' : ℕ) (im : Images) (bus driver : ℕ) (type0 : Bool) → IsBus t bus → depth t bus + greatestDepth t ≤ left
+        → depth t bus + greatestDepth t ≤ left'
+        → busStep (left + left + 1) t im x bus driver type0 ≡ busStep (left' + left' + 1) t im x bus driver type0
     enough left left' im bus driver type0 is a b = enough-same left left' im bus driver type0 is (inl a) (inl b)
 
-    -- and the way down is enough where the bus's holder drives
-    pub from-down : (left : ℕ) (im : Images) (bus : ℕ) (type0 : Bool) → IsBus t bus → greatestDepth t ≤ depth t bus + left
-        → from t h x im bus bus type0 ≡ busStep (left + left + 1) t h x im bus bus type0
-    from-down left im bus type0 is a =
-        enough-same (possible t bus) left im bus bus type0 is (inl (le-refl (possible t bus))) (inr (refl, a))
+    -- a route has as many as are possible
+    module _ (st : Stored t) where
+      -- the way down is enough where the bus's holder drives
+      pub from-down : (left : ℕ) (im : Images) (bus : ℕ) (type0 : Bool) → IsBus t bus → greatestDepth t ≤ depth t bus + left
+          → from t im x bus bus type0 ≡ busStep (left + left + 1) t im x bus bus type0
+      from-down left im bus type0 is a =
+          enough-same (possible t bus) left im bus bus type0 is (inl (omega (arith, possible-is t st bus is))) (inr (refl, a))
 
-    -- a route's crossings are at most the bus's depth and the greatest depth
-    pub crossings-le : (im : Images) (bus driver : ℕ) (type0 : Bool)
-        → crossingsOf (from t h x im bus driver type0 .ending) ≤ depth t bus + greatestDepth t
-    crossings-le im bus driver type0 = bus-le t h x (possible t bus) im bus driver type0
+      -- its crossings are at most the bus's depth and the greatest depth
+      pub crossings-le : (im : Images) (bus driver : ℕ) (type0 : Bool) → IsBus t bus
+          → from t im x bus driver type0 .route .crossings ≤ depth t bus + greatestDepth t
+      crossings-le im bus driver type0 is = omega (arith, bus-le t x (possible t bus) im bus driver type0, possible-is t st bus is)
 
-    -- where the bus's holder drives, at most what the greatest depth is deeper than the bus
-    pub down-le : (im : Images) (bus : ℕ) (type0 : Bool) → IsBus t bus
-        → crossingsOf (from t h x im bus bus type0 .ending) ≤ greatestDepth t - depth t bus
-    down-le im bus type0 is =
-        let n = greatestDepth t - depth t bus in
-        rw (from-down n im bus type0 is (omega arith)) (bus-le t h x n im bus bus type0)
+      -- where the bus's holder drives, at most what the greatest depth is deeper than the bus
+      pub down-le : (im : Images) (bus : ℕ) (type0 : Bool) → IsBus t bus
+          → from t im x bus bus type0 .route .crossings ≤ greatestDepth t - depth t bus
+      down-le im bus type0 is =
+          let n = greatestDepth t - depth t bus in
+          rw (from-down n im bus type0 is (omega arith)) (bus-le t x n im bus bus type0)
 
-    -- from the host at most the greatest depth
-    pub configure-le : (im : Images) → crossingsOf (configure t h x im .ending) ≤ greatestDepth t
-    unfolding configure
-    configure-le im = omega (arith, crossings-le im host host (eqb (x .address) 0), depth-root t)
+      -- from the host at most the greatest depth
+      pub configure-le : (im : Images) → configure t im x .route .crossings ≤ greatestDepth t
+      unfolding configure
+      configure-le im = omega (arith, crossings-le im host host (eqb (x .address) 0) (inl refl), depth-root t)

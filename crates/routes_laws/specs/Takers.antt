@@ -13,14 +13,13 @@ use Rattle.rack.specs.Bools.{tested, both}
 use Rattle.rack.specs.Tree.{Tree, host, parentOf, agents}
 use Rattle.rack_laws.specs.Agents.{All, all-on}
 use Rattle.registers.specs.Image.{Images}
-use Rattle.window.specs.declared.Range.{Range}
 use Rattle.claims.specs.Claim.{claims}
 use Rattle.claims.specs.Claimants.{claimantsIn, claimants, firstTwo}
 use Rattle.steps.specs.declared.Access.{Access}
 use Rattle.steps.specs.declared.Sight.{Sight}
 use Rattle.steps.specs.declared.Sight.the-variants.{Ends, Crosses}
-use Rattle.steps.specs.Ending.{Out}
-use Rattle.steps.specs.Look.{unclaimed, owned, claimed, served, direct, target, look}
+use Rattle.steps.specs.End.{Out}
+use Rattle.steps.specs.Look.{unclaimed, owned, claimed, direct, target, look}
 use Rattle.routes.specs.Route.{follow}
 
 -- an agent of a bus: its holder, or a node on it
@@ -58,8 +57,8 @@ module _ (t : Tree) (bus : ℕ) where
   unfolding All
   agents-on = (inl refl, all-on t bus (OnBus t bus) 0 (t .count) (λ k a b p. inr (omega (arith, b), p)))
 
-  module _ (h : Range) (im : Images) (x : Access) (driver : ℕ) where
-    owned-follows : (g : ℕ) → OnBus t bus g × (g ≡ driver → ⊥) → Follows t bus driver im (owned t h im x g) im
+  module _ (im : Images) (x : Access) (driver : ℕ) where
+    owned-follows : (g : ℕ) → OnBus t bus g × (g ≡ driver → ⊥) → Follows t bus driver im (owned t im x g) im
     unfolding owned
     owned-follows g s =
         tested (eqb g host) (λ a. rw a tt)
@@ -71,29 +70,25 @@ module _ (t : Tree) (bus : ℕ) where
         (λ b. rw (a, b) tt))
 
     claimed-follows : (l : List ℕ) → All (λ g. OnBus t bus g × (g ≡ driver → ⊥)) l
-        → Follows t bus driver im (claimed t h im x bus driver (firstTwo l) .sight) (claimed t h im x bus driver (firstTwo l) .after)
+        → Follows t bus driver im (claimed t im x bus driver (firstTwo l) .sight) (claimed t im x bus driver (firstTwo l) .after)
     unfolding claimed unclaimed All
     claimed-follows [] a = tt
     claimed-follows (y ∷ []) a = owned-follows y (a .0)
     claimed-follows (y ∷ (z ∷ l)) a = tt
 
-    served-follows : (g : ℕ) → Follows t bus driver im (served t im x g .sight) (served t im x g .after)
-    unfolding served
-    served-follows g = tested (x .write) (λ q. rw q tt) (λ q. rw q tt)
-
     direct-follows : Follows t bus driver im (direct t im x bus driver .sight) (direct t im x bus driver .after)
     unfolding direct unclaimed
     direct-follows =
-        tested (eqb (target t bus (x .device)) 255) (λ q. rw q tt) (λ q. rw q (served-follows (target t bus (x .device))))
+        tested (eqb (target t bus (x .device)) 255) (λ q. rw q tt) (λ q. rw q tt)
 
     -- a look sees one or the other
     pub look-follows : (type0 : Bool)
-        → Follows t bus driver im (look t h im x bus driver type0 .sight) (look t h im x bus driver type0 .after)
+        → Follows t bus driver im (look t im x bus driver type0 .sight) (look t im x bus driver type0 .after)
     unfolding look
     look-follows true = direct-follows
     look-follows false =
-        claimed-follows (claimants t h im (x .space) bus driver (x .address))
-        (claiming (OnBus t bus) (λ g. claims t h im (x .space) bus g (x .address)) driver (agents t bus) agents-on)
+        claimed-follows (claimants t im (x .space) bus driver (x .address))
+        (claiming (OnBus t bus) (λ g. claims t im (x .space) bus g (x .address)) driver (agents t bus) agents-on)
 
 -- so two ways to go on that agree on such a bridge agree
 pub follow-same : (t : Tree) (bus driver : ℕ) (im : Images) (cross cross' : ℕ → Images → Out) (s : Sight) (v : Images)

@@ -2,54 +2,72 @@
 -- Assumes nothing.
 use mathlib.Core.Path.{_≡_, ap, _∙_}
 use mathlib.Core.Bool.{true, false}
-use mathlib.Core.List.{List}
 use Prim.Native.Nat.{ℕ}
 use Rattle.rack.specs.Tree.{Tree}
-use Rattle.registers.specs.Image.{Images, images}
-use Rattle.window.specs.declared.Range.{Range}
+use Rattle.header.specs.Register.{readRegister}
+use Rattle.registers.specs.Image.{Images, view, writeNode}
 use Rattle.claims.specs.declared.Space.the-variants as space
 use Rattle.steps.specs.declared.Access.{Access}
-use Rattle.steps.specs.declared.Ending.{Ending}
-use Rattle.steps.specs.Ending.{out}
-use Rattle.routes.specs.Route.{configure, access}
+use Rattle.steps.specs.declared.End.{End}
+use Rattle.steps.specs.declared.End.the-variants as end
+use Rattle.steps.specs.declared.Route.{Route}
+use Rattle.steps.specs.End.{Out}
 use Rattle.overlap.specs.declared.Report.{Report}
 use Rattle.overlap.specs.Check.{check}
 use Rattle.rackfile.specs.declared.Event.{Event}
 use Rattle.rackfile.specs.declared.Event.the-variants.{Write, Read, Memory, Io, Check}
-use Rattle.simulator.specs.declared.Answer.the-variants.{Ended, Checked}
-use Rattle.simulator.specs.Answers.{answered}
-use Rattle.simulator.specs.Run.{configuration, addressed, ended, eventRun}
+use Rattle.simulator.specs.declared.Ending.the-variants.{Data, Stored}
+use Rattle.simulator.specs.declared.Answer.the-variants.{Checked}
+use Rattle.simulator.specs.Answers.{Answered}
+use Rattle.simulator.specs.Run.{configuration, addressed, answers, registerOf, endedAt, ended, configured, accessed, eventRun}
 
-module _ (t : Tree) (h : Range) (im : Images) (e : Event) where
-  module _ (x : Access) (r : Ending) (b d : List ℕ) where
-    pub write-answered : (bus device register enables put : ℕ) → e ≡ Write bus device register enables put
-        → x ≡ configuration true bus device register enables put → out r b d ≡ configure t h x im
-        → answered (Ended r) b d ≡ eventRun t h im e
-    unfolding eventRun
-    write-answered bus device register enables put ee ex eo = rw ee (ap ended (eo ∙ ap (λ (k : Access). configure t h k im) ex))
+abbrev gives : Route → Images → Out
+gives r v = record { route = r; after = v }
 
-    pub read-answered : (bus device register : ℕ) → e ≡ Read bus device register
-        → x ≡ configuration false bus device register 0 0 → out r b d ≡ configure t h x im
-        → answered (Ended r) b d ≡ eventRun t h im e
-    unfolding eventRun
-    read-answered bus device register ee ex eo = rw ee (ap ended (eo ∙ ap (λ (k : Access). configure t h k im) ex))
+-- a register of the node that was reached
+module _ (t : Tree) (im : Images) (x : Access) (crossings g : ℕ) where
+  pub stores : {v : Images} → x .write ≡ true → v ≡ writeNode t im g (x .register) (x .enables) (x .«data»)
+      → answers crossings Stored v ≡ registerOf t im x crossings g
+  unfolding registerOf
+  stores w e = rw w (ap (answers crossings Stored) e)
 
-    pub memory-answered : (initiator direction address : ℕ) → e ≡ Memory initiator direction address
-        → x ≡ addressed space.Memory direction address → out r b d ≡ access t h x im initiator
-        → answered (Ended r) b d ≡ eventRun t h im e
-    unfolding eventRun
-    memory-answered initiator direction address ee ex eo =
-        rw ee (ap ended (eo ∙ ap (λ (k : Access). access t h k im initiator) ex))
+  pub reads : {value : ℕ} → x .write ≡ false → value ≡ readRegister (view t im g) (x .register)
+      → answers crossings (Data value) im ≡ registerOf t im x crossings g
+  unfolding registerOf
+  reads w e = rw w (ap (λ (k : ℕ). answers crossings (Data k) im) e)
 
-    pub io-answered : (initiator direction address : ℕ) → e ≡ Io initiator direction address
-        → x ≡ addressed space.Io direction address → out r b d ≡ access t h x im initiator
-        → answered (Ended r) b d ≡ eventRun t h im e
-    unfolding eventRun
-    io-answered initiator direction address ee ex eo =
-        rw ee (ap ended (eo ∙ ap (λ (k : Access). access t h k im initiator) ex))
+  pub reaches : (e : End) {a : Answered} → e ≡ end.Node g → a ≡ registerOf t im x crossings g → a ≡ endedAt t im x crossings e
+  unfolding endedAt
+  reaches e ee ea = rw ee ea
+
+-- an access, from its route
+pub routed : (t : Tree) (x : Access) {r : Route} {v : Images} {o : Out} {a : Answered} → gives r v ≡ o
+    → a ≡ endedAt t v x (r .crossings) (r .end) → a ≡ ended t x o
+routed t x e q = q ∙ ap (ended t x) e
+
+module _ (t : Tree) (im : Images) (e : Event) {x : Access} {a : Answered} where
+  pub write-answered : {bus device register enables put : ℕ} → e ≡ Write bus device register enables put
+      → x ≡ configuration true bus device register enables put → a ≡ configured t im x → a ≡ eventRun t im e
+  unfolding eventRun
+  write-answered ee ex ea = rw ee (ea ∙ ap (configured t im) ex)
+
+  pub read-answered : {bus device register : ℕ} → e ≡ Read bus device register
+      → x ≡ configuration false bus device register 0 0 → a ≡ configured t im x → a ≡ eventRun t im e
+  unfolding eventRun
+  read-answered ee ex ea = rw ee (ea ∙ ap (configured t im) ex)
+
+  pub memory-answered : {initiator direction address : ℕ} → e ≡ Memory initiator direction address
+      → x ≡ addressed space.Memory direction address → a ≡ accessed t im x initiator → a ≡ eventRun t im e
+  unfolding eventRun
+  memory-answered {initiator} ee ex ea = rw ee (ea ∙ ap (λ (k : Access). accessed t im k initiator) ex)
+
+  pub io-answered : {initiator direction address : ℕ} → e ≡ Io initiator direction address
+      → x ≡ addressed space.Io direction address → a ≡ accessed t im x initiator → a ≡ eventRun t im e
+  unfolding eventRun
+  io-answered {initiator} ee ex ea = rw ee (ea ∙ ap (λ (k : Access). accessed t im k initiator) ex)
 
 -- the check leaves both images as they were
-pub check-answered : (t : Tree) (h : Range) (b d : List ℕ) (e : Event) (r : Report) → e ≡ Check → r ≡ check t h (images b d)
-    → answered (Checked r) b d ≡ eventRun t h (images b d) e
+pub check-answered : (t : Tree) (im : Images) (e : Event) {r : Report} → e ≡ Check → r ≡ check t im
+    → record { answer = Checked r; after = im } ≡ eventRun t im e
 unfolding eventRun
-check-answered t h b d e r ee er = rw (ee, er)
+check-answered t im e ee er = rw (ee, er)

@@ -1,19 +1,23 @@
 -- The run of an event that is not refused.
 -- Assumes nothing: these are definitions.
 use Prim.Native.Nat.{ℕ}
-use mathlib.Core.Bool.{Bool, true, false}
+use mathlib.Core.Bool.{Bool, true, false, cond}
 use lib.Dec.{eqb}
 use Rattle.rack.specs.Tree.{Tree}
-use Rattle.registers.specs.Image.{Images}
-use Rattle.window.specs.declared.Range.{Range}
+use Rattle.header.specs.Register.{readRegister}
+use Rattle.registers.specs.Image.{Images, view, writeNode}
 use Rattle.claims.specs.declared.Space.{Space}
 use Rattle.claims.specs.declared.Space.the-variants as space
 use Rattle.steps.specs.declared.Access.{Access}
-use Rattle.steps.specs.Ending.{Out}
+use Rattle.steps.specs.declared.End.{End}
+use Rattle.steps.specs.declared.End.the-variants as end
+use Rattle.steps.specs.End.{Out}
 use Rattle.routes.specs.Route.{configure, access}
 use Rattle.overlap.specs.Check.{check}
 use Rattle.rackfile.specs.declared.Event.{Event}
 use Rattle.rackfile.specs.declared.Event.the-variants.{Write, Read, Memory, Io, Check}
+use Rattle.simulator.specs.declared.Ending.{Ending}
+use Rattle.simulator.specs.declared.Ending.the-variants.{Data, Stored, Owner, Host, Unclaimed, Clash, Silent}
 use Rattle.simulator.specs.declared.Answer.the-variants.{Ended, Checked}
 use Rattle.simulator.specs.Answers.{Answered}
 
@@ -43,14 +47,39 @@ addressed s direction address =
       «data» = 0;
     }
 
-abbrev pub ended : Out → Answered
-ended o = record { answer = Ended (o .ending); after = o .after }
+-- an access that ended, with the images that it leaves
+abbrev pub answers : ℕ → Ending → Images → Answered
+answers crossings e im = record { answer = Ended crossings e; after = im }
 
--- each event: 'Configuration starts at the host', an access at its initiator; 'A check changes no register'
-unfoldable pub eventRun : Tree → Range → Images → Event → Answered
-eventRun t h im (Write bus device register enables put) =
-    ended (configure t h (configuration true bus device register enables put) im)
-eventRun t h im (Read bus device register) = ended (configure t h (configuration false bus device register 0 0) im)
-eventRun t h im (Memory initiator direction address) = ended (access t h (addressed space.Memory direction address) im initiator)
-eventRun t h im (Io initiator direction address) = ended (access t h (addressed space.Io direction address) im initiator)
-eventRun t h im Check = record { answer = Checked (check t h im); after = im }
+-- the register that the access names, of node g, is read or written
+unfoldable pub registerOf : Tree → Images → Access → ℕ → ℕ → Answered
+registerOf t im x crossings g =
+    cond (x .write) (answers crossings Stored (writeNode t im g (x .register) (x .enables) (x .«data»)))
+    (answers crossings (Data (readRegister (view t im g) (x .register))) im)
+
+-- what an access comes to, by where its route ended
+unfoldable pub endedAt : Tree → Images → Access → ℕ → End → Answered
+endedAt t im x crossings (end.Node g) = registerOf t im x crossings g
+endedAt t im x crossings (end.Owner node region offset) = answers crossings (Owner node region offset) im
+endedAt t im x crossings (end.Host offset) = answers crossings (Host offset) im
+endedAt t im x crossings (end.Unclaimed holder outcome) = answers crossings (Unclaimed holder outcome) im
+endedAt t im x crossings (end.Clash holder first second) = answers crossings (Clash holder first second) im
+endedAt t im x crossings end.Silent = answers crossings Silent im
+
+abbrev pub ended : Tree → Access → Out → Answered
+ended t x o = endedAt t (o .after) x (o .route .crossings) (o .route .end)
+
+-- 01: 'Configuration starts at the host', an access at its initiator
+abbrev pub configured : Tree → Images → Access → Answered
+configured t im x = ended t x (configure t im x)
+
+abbrev pub accessed : Tree → Images → Access → ℕ → Answered
+accessed t im x initiator = ended t x (access t im x initiator)
+
+-- each event; 'A check changes no register'
+unfoldable pub eventRun : Tree → Images → Event → Answered
+eventRun t im (Write bus device register enables put) = configured t im (configuration true bus device register enables put)
+eventRun t im (Read bus device register) = configured t im (configuration false bus device register 0 0)
+eventRun t im (Memory initiator direction address) = accessed t im (addressed space.Memory direction address) initiator
+eventRun t im (Io initiator direction address) = accessed t im (addressed space.Io direction address) initiator
+eventRun t im Check = record { answer = Checked (check t im); after = im }

@@ -4,12 +4,15 @@ ghost use Rattle.rack.specs.Table.{treeOf};
 ghost use Rattle.rack.specs.Refusal.{rackRefusal};
 ghost use Rattle.registers.specs.Image.{images};
 ghost use Rattle.simulator.specs.Answers.{answered};
-ghost use Rattle.simulator.specs.Run.{configuration, addressed, eventRun};
+ghost use Rattle.simulator.specs.Run.{configuration, addressed, configured, accessed, eventRun};
 use crate::Answer;
+use crate::ended::ended_at;
 use claims::Space;
+use rack::table::Table;
 use rackfile::Event;
+use routes::route::route_access;
+use routes::route::route_configuration;
 use steps::Access;
-use window::Range;
 
 fn configuration_of(write: bool, bus: u8, device: u8, register: u8, enables: u8, put: u32) -> Access
     ensures { λ r. ⌜ r ≡ configuration write bus device register enables put ⌝ }
@@ -40,17 +43,34 @@ fn addressed_at(space: Space, direction: u8, address: u64) -> Access
     }
 }
 
-// The answer to an event, and what it leaves in both images.
-pub fn answer_event(
-    words: &[u64; 192],
-    count: u8,
+// A configuration access is routed and served.
+fn configured_by(table: &Table, bridges: &mut [u8], devices: &mut [u8], x: Access) -> Answer
+    ensures { λ r. ⌜ answered r (now (bridges .exit)) (now (devices .exit)) ≡ configured (treeOf (now (table .entry))) (images (now (bridges .entry)) (now (devices .entry))) x ⌝ }
+{
+    let r = route_configuration(table, bridges, devices, x);
+    let end = r.end;
+    ended_at(table, bridges, devices, x, r.crossings, end)
+}
+
+// A memory or I/O access is routed from its initiator.
+fn accessed_by(
+    table: &Table,
     bridges: &mut [u8],
     devices: &mut [u8],
-    host: Range,
-    e: Event,
+    x: Access,
+    initiator: u8,
 ) -> Answer
-    requires { ⌜ rackRefusal (treeOf count (now words)) ≡ 0 ⌝ }
-    ensures { λ r. ⌜ answered r (now (bridges .exit)) (now (devices .exit)) ≡ eventRun (treeOf count (now (words .entry))) host (images (now (bridges .entry)) (now (devices .entry))) e ⌝ }
+    ensures { λ r. ⌜ answered r (now (bridges .exit)) (now (devices .exit)) ≡ accessed (treeOf (now (table .entry))) (images (now (bridges .entry)) (now (devices .entry))) x initiator ⌝ }
+{
+    let r = route_access(table, bridges, devices, x, initiator);
+    let end = r.end;
+    ended_at(table, bridges, devices, x, r.crossings, end)
+}
+
+// The answer to an event, and what it leaves in both images.
+pub fn answer_event(table: &Table, bridges: &mut [u8], devices: &mut [u8], e: Event) -> Answer
+    requires { ⌜ rackRefusal (treeOf (now table)) ≡ 0 ⌝ }
+    ensures { λ r. ⌜ answered r (now (bridges .exit)) (now (devices .exit)) ≡ eventRun (treeOf (now (table .entry))) (images (now (bridges .entry)) (now (devices .entry))) e ⌝ }
 {
     match e {
         Event::Write {
@@ -61,14 +81,7 @@ pub fn answer_event(
             put,
         } => {
             let x = configuration_of(true, bus, device, register, enables, put);
-            Answer::Ended(routes::route::route_configuration(
-                words,
-                count,
-                bridges,
-                devices,
-                host,
-                x,
-            ))
+            configured_by(table, bridges, devices, x)
         }
         Event::Read {
             bus,
@@ -76,14 +89,7 @@ pub fn answer_event(
             register,
         } => {
             let x = configuration_of(false, bus, device, register, 0, 0);
-            Answer::Ended(routes::route::route_configuration(
-                words,
-                count,
-                bridges,
-                devices,
-                host,
-                x,
-            ))
+            configured_by(table, bridges, devices, x)
         }
         Event::Memory {
             initiator,
@@ -91,15 +97,7 @@ pub fn answer_event(
             address,
         } => {
             let x = addressed_at(Space::Memory, direction, address);
-            Answer::Ended(routes::route::route_access(
-                words,
-                count,
-                bridges,
-                devices,
-                host,
-                x,
-                initiator,
-            ))
+            accessed_by(table, bridges, devices, x, initiator)
         }
         Event::Io {
             initiator,
@@ -107,22 +105,8 @@ pub fn answer_event(
             address,
         } => {
             let x = addressed_at(Space::Io, direction, address as u64);
-            Answer::Ended(routes::route::route_access(
-                words,
-                count,
-                bridges,
-                devices,
-                host,
-                x,
-                initiator,
-            ))
+            accessed_by(table, bridges, devices, x, initiator)
         }
-        Event::Check => Answer::Checked(checks::buses::check_rack(
-            words,
-            count,
-            bridges,
-            devices,
-            host,
-        )),
+        Event::Check => Answer::Checked(checks::buses::check_rack(table, bridges, devices)),
     }
 }

@@ -1,2 +1,5 @@
--- What the functions' proofs use.
+-- What the functions' proofs use, also those of crates above.
+pub mod Ended
+mod Owned
+mod Seen
 mod Sits

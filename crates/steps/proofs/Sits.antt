@@ -1,25 +1,39 @@
--- The search for the node of a device number: what it asks of a node, and where it starts.
+-- The search for the node of a device number: what it asks of a node, and what it gives.
 -- Assumes nothing.
 use mathlib.Core.Path.{_≡_, ap, _∙_}
-use mathlib.Core.Bool.{Bool, _&&_}
-use mathlib.Core.List.{List}
-use Prim.Native.Nat.{ℕ, _-_, _/_, _%_}
+use mathlib.Core.Bool.{Bool, true, false, _&&_}
+use Prim.Native.Nat.{ℕ, _+_, _-_, _/_, _%_, _≤_, _<_}
 use native.Mathlib.Omega.{arith}
-use borrow.Author.Tests.{eq-eqb}
+use borrow.Author.Tests.{eq-eqb, ne-eqb}
 use lib.Dec.{eqb}
-use Rattle.rack.specs.Table.{treeOf, nodeAt}
+use Rattle.rack.specs.Tree.{Tree, parentOf}
 use Rattle.claims.specs.Claimants.{nextFrom}
+use Rattle.claims.specs.ClaimantLaws.{NextYet, next-next, next-found, next-none}
 use Rattle.steps.specs.Look.{target}
 
 -- node i sits on the bus with the device number
-abbrev pub sits : List ℕ → ℕ → ℕ → ℕ → Bool
-sits words bus number i = eqb (nodeAt words i .parent) bus && eqb (nodeAt words i .device) number
+abbrev pub sits : Tree → ℕ → ℕ → ℕ → Bool
+sits t bus number i = eqb (parentOf t i) bus && eqb (t .node i .device) number
 
--- function 0 is searched for from node 0 on
-pub target-first : (count : ℕ) (words : List ℕ) (bus device : ℕ) → device % 8 ≡ 0
-    → target (treeOf count words) bus device ≡ nextFrom (sits words bus (device / 8)) 0 (count - 0)
+-- none of another function
+pub sits-off : (t : Tree) (bus device : ℕ) → (device % 8 ≡ 0 → ⊥) → 255 ≡ target t bus device
 unfolding target
-target-first count words bus device e =
-    let whole : count ≡ count - 0 = omega arith in
-    let found : target (treeOf count words) bus device ≡ nextFrom (sits words bus (device / 8)) 0 count = rw (eq-eqb (device % 8) 0 e) in
-    found ∙ ap (nextFrom (sits words bus (device / 8)) 0) whole
+sits-off t bus device ne = rw (ne-eqb (device % 8) 0 ne)
+
+is-target : (t : Tree) (bus device : ℕ) → device % 8 ≡ 0 → {k : ℕ} → k ≡ nextFrom (sits t bus (device / 8)) 0 (t .count - 0)
+    → k ≡ target t bus device
+unfolding target
+is-target t bus device e q =
+    let whole : t .count - 0 ≡ t .count = omega arith in
+    rw (eq-eqb (device % 8) 0 e) (q ∙ ap (nextFrom (sits t bus (device / 8)) 0) whole)
+
+module _ (t : Tree) (bus device : ℕ) {n i : ℕ} (yet : NextYet (sits t bus (device / 8)) 0 n i) where
+  pub sits-next : {b : Bool} → i < n → b ≡ sits t bus (device / 8) i → b ≡ false → NextYet (sits t bus (device / 8)) 0 n (i + 1)
+  sits-next = next-next (sits t bus (device / 8)) 0 yet
+
+  module _ (e : device % 8 ≡ 0) (at : n ≡ t .count) where
+    pub sits-found : {b : Bool} → i < n → b ≡ sits t bus (device / 8) i → b ≡ true → i ≡ target t bus device
+    sits-found h eb q = is-target t bus device e (next-found (sits t bus (device / 8)) 0 yet at h eb q)
+
+    pub sits-none : n ≤ i → 255 ≡ target t bus device
+    sits-none h = is-target t bus device e (next-none (sits t bus (device / 8)) 0 yet at h)

@@ -2,6 +2,7 @@
 -- Assumes nothing: these are definitions.
 use Prim.Native.Nat.{ℕ, _+_}
 use mathlib.Core.Bool.{Bool, true, false, not, _&&_, cond}
+use mathlib.Core.List.{List}
 use lib.Dec.{eqb}
 use lib.ListN.{getD}
 use Rattle.rack.specs.Tree.{Tree, parentOf}
@@ -9,16 +10,17 @@ use Rattle.header.specs.declared.Side.{Side}
 use Rattle.header.specs.declared.Side.the-variants.{Primary, Secondary}
 use Rattle.header.specs.declared.StatusBit.the-variants.{SignaledTargetAbort, ReceivedTargetAbort}
 use Rattle.header.specs.Offset.{SECONDARY-BUS, BRIDGE-CONTROL}
-use Rattle.registers.specs.Image.{Images, view, statusNode}
+use Rattle.registers.specs.Image.{Images, images, view, statusNode}
 use Rattle.window.specs.Window.{bitAt}
 use Rattle.claims.specs.declared.Space.{Space}
 use Rattle.claims.specs.declared.Space.the-variants.{Memory, Io, Configuration}
 use Rattle.steps.specs.declared.Access.{Access}
 use Rattle.steps.specs.declared.Outcome.{Outcome}
 use Rattle.steps.specs.declared.Outcome.the-variants.{Abort, Done, Target}
-use Rattle.steps.specs.declared.Ending.{Ending}
-use Rattle.steps.specs.declared.Ending.the-variants.{Data, Stored, Owner, Host, Unclaimed, Clash, Silent}
-use Rattle.steps.specs.Ending.{Out}
+use Rattle.steps.specs.declared.End.{End}
+use Rattle.steps.specs.declared.End.the-variants.{Unclaimed}
+use Rattle.steps.specs.declared.Route.{Route}
+use Rattle.steps.specs.End.{Out, ifUnclaimed}
 use Rattle.steps.specs.Look.{sideOn}
 
 -- a bridge takes an access up from the bus that it holds, and down from the bus that it sits on
@@ -61,25 +63,36 @@ lastImages t im bus g Abort = im
 lastImages t im bus g Done = im
 lastImages t im bus g Target = signalled t im bus g
 
+-- what is made of the outcome of an unclaimed access, with the images that this leaves
+pub record Passed : Type 0 where
+  pub outcome : Outcome
+  pub after : Images
+
+abbrev pub passing : Outcome → List ℕ → List ℕ → Passed
+passing o b d = record { outcome = o; after = images b d }
+
 -- 01: 'each earlier bridge bit 12 towards the later and bit 11 towards the initiator'
-unfoldable pub passed : Tree → Images → Access → ℕ → ℕ → ℕ → ℕ → Outcome → Out
-passed t im x bus g c holder Abort =
+unfoldable pub passed : Tree → Images → Access → ℕ → ℕ → Outcome → Passed
+passed t im x bus g Abort =
+    record { outcome = lastOutcome t im x g; after = lastImages t im bus g (lastOutcome t im x g) }
+passed t im x bus g Done = record { outcome = Done; after = im }
+passed t im x bus g Target =
     record {
-      ending = Unclaimed (c + 1) holder (lastOutcome t im x g);
-      after = lastImages t im bus g (lastOutcome t im x g);
-    }
-passed t im x bus g c holder Done = record { ending = Unclaimed (c + 1) holder Done; after = im }
-passed t im x bus g c holder Target =
-    record {
-      ending = Unclaimed (c + 1) holder Target;
+      outcome = Target;
       after = signalled t (statusNode t im g (towardsLater bus g) ReceivedTargetAbort) bus g;
     }
 
-unfoldable pub crossed : Tree → Images → Access → ℕ → ℕ → Ending → Out
-crossed t im x bus g (Data c v) = record { ending = Data (c + 1) v; after = im }
-crossed t im x bus g (Stored c) = record { ending = Stored (c + 1); after = im }
-crossed t im x bus g (Owner c n r o) = record { ending = Owner (c + 1) n r o; after = im }
-crossed t im x bus g (Host c o) = record { ending = Host (c + 1) o; after = im }
-crossed t im x bus g (Unclaimed c h o) = passed t im x bus g c h o
-crossed t im x bus g (Clash c h y z) = record { ending = Clash (c + 1) h y z; after = im }
-crossed t im x bus g Silent = record { ending = Silent; after = im }
+-- the end of a route on its way back through bridge g, and the images that this leaves
+abbrev pub passedEnd : Tree → Images → Access → ℕ → ℕ → End → End
+passedEnd t im x bus g e = ifUnclaimed (λ holder o. Unclaimed holder (passed t im x bus g o .outcome)) e e
+
+abbrev pub passedImages : Tree → Images → Access → ℕ → ℕ → End → Images
+passedImages t im x bus g e = ifUnclaimed (λ holder o. passed t im x bus g o .after) im e
+
+-- one crossing more
+unfoldable pub crossed : Tree → Images → Access → ℕ → ℕ → Route → Out
+crossed t im x bus g r =
+    record {
+      route = record { crossings = r .crossings + 1; end = passedEnd t im x bus g (r .end) };
+      after = passedImages t im x bus g (r .end);
+    }

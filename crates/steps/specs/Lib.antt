@@ -1,3 +1,5 @@
-pub mod Ending
+pub mod Outcome
+pub mod End
+pub mod EndLaws
 pub mod Look
 pub mod Cross

@@ -8,9 +8,7 @@ use Rattle.rack.specs.Tree.{Tree, host, parentOf}
 use Rattle.header.specs.declared.Side.{Side}
 use Rattle.header.specs.declared.Side.the-variants.{Primary, Secondary}
 use Rattle.header.specs.declared.StatusBit.the-variants.{ReceivedMasterAbort}
-use Rattle.header.specs.Register.{readRegister}
-use Rattle.registers.specs.Image.{Images, view, writeNode, statusNode}
-use Rattle.window.specs.declared.Range.{Range}
+use Rattle.registers.specs.Image.{Images, view, statusNode}
 use Rattle.claims.specs.declared.Space.{Space}
 use Rattle.claims.specs.declared.Space.the-variants.{Memory, Io, Configuration}
 use Rattle.claims.specs.declared.Claimants.{Claimants}
@@ -20,10 +18,10 @@ use Rattle.claims.specs.Claim.{reached, offsetIn}
 use Rattle.claims.specs.Claimants.{claimants, firstTwo, nextFrom}
 use Rattle.steps.specs.declared.Access.{Access}
 use Rattle.steps.specs.declared.Outcome.the-variants.{Abort}
-use Rattle.steps.specs.declared.Ending.the-variants.{Data, Stored, Owner, Host, Unclaimed, Clash}
+use Rattle.steps.specs.declared.End.the-variants.{Node, Owner, Host, Unclaimed, Clash}
 use Rattle.steps.specs.declared.Sight.{Sight}
 use Rattle.steps.specs.declared.Sight.the-variants.{Ends, Crosses}
-use Rattle.steps.specs.Ending.{Seen}
+use Rattle.steps.specs.End.{Seen}
 
 abbrev pub isIo : Space → Bool
 isIo Memory = false
@@ -40,22 +38,22 @@ masterAbort t im bus driver =
     cond (eqb driver host) im (statusNode t im driver (sideOn bus driver) ReceivedMasterAbort)
 
 unfoldable pub unclaimed : Tree → Images → ℕ → ℕ → Seen
-unclaimed t im bus driver = record { sight = Ends (Unclaimed 0 bus Abort); after = masterAbort t im bus driver }
+unclaimed t im bus driver = record { sight = Ends (Unclaimed bus Abort); after = masterAbort t im bus driver }
 
 -- 01: 'one claimant owns it or, if a bridge, takes it across'; the offset from the region's or the host's first address
-unfoldable pub owned : Tree → Range → Images → Access → ℕ → Sight
-owned t h im x g =
-    cond (eqb g host) (Ends (Host 0 (x .address - h .first)))
+unfoldable pub owned : Tree → Images → Access → ℕ → Sight
+owned t im x g =
+    cond (eqb g host) (Ends (Host (x .address - t .hostMemory .first)))
     (cond (isBridge (t .node g .kind)) (Crosses g)
     (Ends
-    (Owner 0 g (reached (deviceOf (t .node g) (view t im g)) (isIo (x .space)) (x .address))
+    (Owner g (reached (deviceOf (t .node g) (view t im g)) (isIo (x .space)) (x .address))
     (offsetIn (deviceOf (t .node g) (view t im g)) (isIo (x .space)) (x .address)))))
 
 -- 01: 'With no claimant the access is unclaimed, with two or more it clashes'. A clash sets nothing
-unfoldable pub claimed : Tree → Range → Images → Access → ℕ → ℕ → Claimants → Seen
-claimed t h im x bus driver Nobody = unclaimed t im bus driver
-claimed t h im x bus driver (One g) = record { sight = owned t h im x g; after = im }
-claimed t h im x bus driver (Two y z) = record { sight = Ends (Clash 0 bus y z); after = im }
+unfoldable pub claimed : Tree → Images → Access → ℕ → ℕ → Claimants → Seen
+claimed t im x bus driver Nobody = unclaimed t im bus driver
+claimed t im x bus driver (One g) = record { sight = owned t im x g; after = im }
+claimed t im x bus driver (Two y z) = record { sight = Ends (Clash bus y z); after = im }
 
 -- 01: 'Type 0 reaches the node of that device number, function 0'; 255 where there is none
 unfoldable pub target : Tree → ℕ → ℕ → ℕ
@@ -64,20 +62,14 @@ target t bus device =
     (nextFrom (λ i. eqb (parentOf t i) bus && eqb (t .node i .device) (device / 8)) 0 (t .count))
     255
 
--- a register of that node is read or written
-unfoldable pub served : Tree → Images → Access → ℕ → Seen
-served t im x g =
-    cond (x .write)
-    (record { sight = Ends (Stored 0); after = writeNode t im g (x .register) (x .enables) (x .«data») })
-    (record { sight = Ends (Data 0 (readRegister (view t im g) (x .register))); after = im })
-
--- 01: 'which owns it; otherwise .. it is unclaimed'
+-- 01: 'which owns it; otherwise .. it is unclaimed'. Its register is read or written where the event is run
 unfoldable pub direct : Tree → Images → Access → ℕ → ℕ → Seen
 direct t im x bus driver =
-    cond (eqb (target t bus (x .device)) 255) (unclaimed t im bus driver) (served t im x (target t bus (x .device)))
+    cond (eqb (target t bus (x .device)) 255) (unclaimed t im bus driver)
+    (record { sight = Ends (Node (target t bus (x .device))); after = im })
 
 -- a bus, for an access that is Type 0 configuration there or is claimed
-unfoldable pub look : Tree → Range → Images → Access → ℕ → ℕ → Bool → Seen
-look t h im x bus driver type0 =
+unfoldable pub look : Tree → Images → Access → ℕ → ℕ → Bool → Seen
+look t im x bus driver type0 =
     cond type0 (direct t im x bus driver)
-    (claimed t h im x bus driver (firstTwo (claimants t h im (x .space) bus driver (x .address))))
+    (claimed t im x bus driver (firstTwo (claimants t im (x .space) bus driver (x .address))))

@@ -21,41 +21,25 @@ pub enum Outcome {
     Target,
 }
 
-// How an access ended.
-pub enum Ending {
-    Data {
-        crossings: u32,
-        value: u32,
-    },
-    Stored {
-        crossings: u32,
-    },
-    Owner {
-        crossings: u32,
-        node: u8,
-        region: u8,
-        offset: u64,
-    },
-    Host {
-        crossings: u32,
-        offset: u64,
-    },
-    Unclaimed {
-        crossings: u32,
-        holder: u8,
-        outcome: Outcome,
-    },
-    Clash {
-        crossings: u32,
-        holder: u8,
-        first: u8,
-        second: u8,
-    },
+// Where a route ends: at the node whose register a Type 0 access names, at the region or the host memory that holds the
+// address, unclaimed, in a clash; or nothing was driven.
+pub enum End {
+    Node(u8),
+    Owner { node: u8, region: u8, offset: u64 },
+    Host { offset: u64 },
+    Unclaimed { holder: u8, outcome: Outcome },
+    Clash { holder: u8, first: u8, second: u8 },
     Silent,
 }
 
-// What is seen on a bus: how the access ends there, or the bridge that takes it across.
+// How often a bridge took the access across, and where it ended.
+pub struct Route {
+    pub crossings: u32,
+    pub end: End,
+}
+
+// What is seen on a bus: where the access ends there, or the bridge that takes it across.
 pub enum Sight {
-    Ends(Ending),
+    Ends(End),
     Crosses(u8),
 }

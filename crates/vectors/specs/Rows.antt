@@ -17,7 +17,7 @@ use Rattle.header.specs.Mask.{writeMask, clearMask, regionWrite, regionReset, r
 use Rattle.header.specs.Register.{readRegister, writeByte, writeDword, writeRegister}
 use Rattle.header.specs.Sizing.{readBack, sizePart}
 use Rattle.registers.specs.Reset.{resetFrom, resetPart}
-use Rattle.rack.specs.Tree.{Tree, host, placeOf, nodesFrom, bridgesFrom}
+use Rattle.rack.specs.Tree.{Tree, host, placeOf, nodesFrom, bridgesFrom, treeWith}
 use Rattle.registers.specs.Image.{Images, images, partOf, view}
 use Rattle.window.specs.Range.{empty}
 use Rattle.window.specs.Area.{areaOf}
@@ -126,7 +126,7 @@ each w part want (a ∷ rest) = cond want (answer w part a) (not (answer w part 
 
 -- a rack of that bridge alone, and a configuration read of a bus number
 abbrev pub alone : Tree
-alone = record { count = 1; node = λ i. node Bridge noRegion; place = λ i. 0 }
+alone = treeWith empty (λ i. node Bridge noRegion) 1
 
 abbrev pub reading : ℕ → Access
 reading bus =
@@ -138,7 +138,7 @@ takenBy (Crosses k) g = eqb k g
 
 abbrev pub asType1 : List ℕ → ℕ → Bool
 asType1 part bus =
-    takenBy (look alone empty (images part []) (reading bus) host host false .sight) 0
+    takenBy (look alone (images part []) (reading bus) host host false .sight) 0
     && not (turnsType0 alone (images part []) (reading bus) host 0)
 
 -- a rack of such nodes
@@ -147,7 +147,7 @@ nodeIn [] i = noNode
 nodeIn (fitted n ps ∷ fs) i = cond (eqb i 0) n (nodeIn fs (i - 1))
 
 abbrev pub rackOf : List Fitted → Tree
-rackOf fs = record { count = length fs; node = nodeIn fs; place = placeOf (nodeIn fs) }
+rackOf fs = treeWith empty (nodeIn fs) (length fs)
 
 -- the image of its bridges, and of its devices
 abbrev pub imageIn : Bool → List Fitted → List ℕ
@@ -183,7 +183,7 @@ holds (holds-of w ps ins outs) = each w (poked ps) true ins && each w (poked ps)
 holds (none-in w ps) = isEmpty (endsOf (windowIn (windowsOf (poked ps)) (number w)))
 holds (crosses ps bus) = asType1 (poked ps) bus
 holds (clears k status put after) = eqb (statusAfter (node k noRegion) status put) after
-holds (checks fs r) = sameReport (check (rackOf fs) empty (imagesOf fs)) r
+holds (checks fs r) = sameReport (check (rackOf fs) (imagesOf fs)) r
 
 abbrev pub all : List Row → Bool
 all [] = true
@@ -230,15 +230,15 @@ rows =
     ∷ []
 
 -- the check is a search of every address: what the sweep finds in at most 40 stretches is what it finds (`checked`)
-three-faults : check (rackOf three) empty (imagesOf three) ≡ Fault 0 Memory 0x90000000 2 0 1
+three-faults : check (rackOf three) (imagesOf three) ≡ Fault 0 Memory 0x90000000 2 0 1
 unfolding countOf placeOf resetFrom resetByte regionReset partOf view nodesFrom bridgesFrom windowsOf areaOf area.holds insideMemory insideIo memoryUntil ioUntil cutAt cutPast cutIf cutLow bridgeOf deviceOf agentOf primaryClaims secondaryClaims deviceClaims hostClaims claimsOf windowsUntil regionsUntil untilOf claimantsIn firstIn shown atValue untilAll decoded sweepBy firstBy onBusBy checkBy
-three-faults = checked 40 _ _ _ _ refl
+three-faults = checked 40 _ _ _ refl
 
-two-pass : check (rackOf two) empty (imagesOf two) ≡ Pass
+two-pass : check (rackOf two) (imagesOf two) ≡ Pass
 unfolding countOf placeOf resetFrom resetByte regionReset partOf view nodesFrom bridgesFrom windowsOf areaOf area.holds insideMemory insideIo memoryUntil ioUntil cutAt cutPast cutIf cutLow bridgeOf deviceOf agentOf primaryClaims secondaryClaims deviceClaims hostClaims claimsOf windowsUntil regionsUntil untilOf claimantsIn firstIn shown atValue untilAll decoded sweepBy firstBy onBusBy checkBy
-two-pass = checked 40 _ _ _ _ refl
+two-pass = checked 40 _ _ _ refl
 
 -- every row holds
 pub table : all rows ≡ true
-unfolding endsOf windowIn resetFrom resetByte regionReset regionWrite writeMask clearMask readRegister writeByte writeDword writeRegister readBack sizePart windowsOf insideIo nodesFrom partOf view bridgeOf agentOf primaryClaims hostClaims claimsOf claimantsIn owned claimed look turnsType0
+unfolding endsOf windowIn resetFrom resetByte regionReset regionWrite writeMask clearMask readRegister writeByte writeDword writeRegister readBack sizePart windowsOf insideIo nodesFrom partOf view bridgeOf agentOf primaryClaims hostClaims claimsOf claimantsIn owned claimed look turnsType0 placeOf countOf
 table = rw (three-faults, two-pass) refl

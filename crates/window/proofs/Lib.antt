@@ -1,2 +1,3 @@
 -- Laws that the proofs use.
 mod Granule
+mod Decoded

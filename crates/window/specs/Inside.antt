@@ -3,7 +3,7 @@
 use Prim.Native.Nat.{ℕ, _/_, _%_}
 use mathlib.Core.Bool.{Bool, not, _&&_, _||_}
 use lib.Dec.{ltb, eqb}
-use Rattle.window.specs.declared.Range.{Range}
+use Rattle.rack.specs.declared.Range.{Range}
 use Rattle.window.specs.declared.Windows.{Windows}
 use Rattle.window.specs.Range.{range, within}
 use Rattle.window.specs.Cut.{cutRange, cutLow}

@@ -3,7 +3,7 @@ ghost use mathlib.Core.Path.{_≡_};
 ghost use Prim.Native.Nat.{_+_, _<_};
 ghost use Rattle.window.specs.Range.{within};
 ghost use Rattle.window.specs.Cut.{cutAt, cutPast, cutRange, cutIf, cutLow};
-use crate::Range;
+use rack::Range;
 
 pub fn within_range(r: Range, a: u64) -> bool
     ensures { λ s. ⌜ s ≡ within r a ⌝ }

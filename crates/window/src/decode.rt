@@ -3,7 +3,6 @@ ghost use mathlib.Core.Path.{_≡_};
 ghost use Prim.Native.Nat.{_+_, _*_, _/_, _%_, _^_, _<_};
 ghost use Rattle.window.specs.Range.{window};
 ghost use Rattle.window.specs.Window.{wordAt, memoryOf, prefetchableOf, ioOf, windowsOf};
-use crate::Range;
 use crate::Windows;
 use header::offset::BRIDGE_CONTROL;
 use header::offset::IO_BASE;
@@ -18,6 +17,7 @@ use header::offset::PREF_MEMORY_BASE;
 use header::offset::PREF_MEMORY_LIMIT;
 use header::register::byte_at;
 use header::register::read_register;
+use rack::Range;
 
 fn word_of(low: u8, high: u8) -> u16
     ensures { λ r. ⌜ r ≡ high * 256 + low ⌝ }

@@ -1,11 +1,11 @@
 // What a bridge's windows answer for an address, and an end up to which the answer stays the same.
 ghost use mathlib.Core.Path.{_≡_};
 ghost use Rattle.window.specs.Inside.{inMemory, inPrefetchable, isaCut, inIo, inVgaMemory, inVgaIo, insideMemory, insideIo, memoryUntil, ioUntil};
-use crate::Range;
 use crate::Windows;
 use crate::cut::cut_low;
 use crate::cut::cut_range;
 use crate::cut::within_range;
+use rack::Range;
 
 impl Windows {
     pub fn in_memory(self, a: u64) -> bool

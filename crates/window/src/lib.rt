@@ -4,11 +4,7 @@ pub mod decode;
 pub mod inside;
 pub mod region;
 
-// Addresses from first to last, both in; none where first is above last.
-pub struct Range {
-    pub first: u64,
-    pub last: u64,
-}
+use rack::Range;
 
 // The windows of a bridge.
 pub struct Windows {

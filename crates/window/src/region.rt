@@ -4,10 +4,10 @@ ghost use Prim.Native.Nat.{_+_, _*_, _/_, _^_, _<_};
 ghost use Rattle.window.specs.Range.{window};
 ghost use Rattle.window.specs.Area.{regionValue, areaOf, holds};
 use crate::Area;
-use crate::Range;
 use crate::cut::within_range;
 use header::offset::BASE_ADDRESS;
 use header::register::read_register;
+use rack::Range;
 
 fn size_of(e: u8) -> u64
     requires { ⌜ e < 32 ⌝ }
@@ -22,7 +22,7 @@ fn granule_of(value: u64, e: u8) -> Range
     ensures { λ r. ⌜ r ≡ window e (value / 2 ^ e) (value / 2 ^ e) ⌝ }
 {
     let size = size_of(e);
-    let first = value / size * size;
+    let first = (value >> e) * size;
     Range {
         first,
         last: first + (size - 1),

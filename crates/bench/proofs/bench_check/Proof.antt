@@ -7,10 +7,10 @@ use Rattle.bench.proofs.bench_check.Statement.{statement}
 use Rattle.bench.proofs.bench_check.Tie as tie
 
 abbrev Inv-loop : tie.InvT-loop
-Inv-loop words count bridges devices rounds host shown₀ i₀ shown i = rackRefusal (treeOf count words) ≡ 0
+Inv-loop table bridges devices rounds shown₀ i₀ shown i = rackRefusal (treeOf table) ≡ 0
 
 abbrev μ-loop : tie.MeasureT-loop
-μ-loop words count bridges devices rounds host shown₀ i₀ shown i = rounds - i
+μ-loop table bridges devices rounds shown₀ i₀ shown i = rounds - i
 
 refusal-of-requires : tie.Need-refusal-of-requires Inv-loop μ-loop
 refusal-of-requires c κs = search needs

@@ -1,18 +1,16 @@
-use mathlib.Core.Path.{_≡_, refl, sym, _∙_}
+use mathlib.Core.Path.{_≡_, refl}
 use Prim.Native.Nat.{_-_}
 use lib.ListN.{length}
 use borrow.Author.Needs.{needs}
-use Rattle.rack.specs.Table.{treeOf}
-use Rattle.rack.specs.Refusal.{rackRefusal}
 use Rattle.bench.proofs.bench_route.Statement.{statement}
 use Rattle.bench.proofs.bench_route.Tie as tie
 
 abbrev Inv-loop : tie.InvT-loop
-Inv-loop words count bridges₀ devices₀ initiator address rounds shown₀ i₀ bridges devices shown i =
-    (length bridges ≡ length bridges₀) × (length devices ≡ length devices₀) × (rackRefusal (treeOf count words) ≡ 0)
+Inv-loop table bridges₀ devices₀ initiator address rounds shown₀ i₀ bridges devices shown i =
+    (length bridges ≡ length bridges₀) × (length devices ≡ length devices₀)
 
 abbrev μ-loop : tie.MeasureT-loop
-μ-loop words count bridges₀ devices₀ initiator address rounds shown₀ i₀ bridges devices shown i = rounds - i
+μ-loop table bridges₀ devices₀ initiator address rounds shown₀ i₀ bridges devices shown i = rounds - i
 
 refusal-of-requires : tie.Need-refusal-of-requires Inv-loop μ-loop
 refusal-of-requires c κs = search needs
@@ -21,10 +19,10 @@ returns : tie.Need-returns Inv-loop μ-loop
 returns c = search needs
 
 loop-holds : tie.Need-loop-holds Inv-loop μ-loop
-loop-holds c = (refl, refl, sym (c .before .refusal-of .ensures) ∙ c .if1 .left)
+loop-holds c = (refl, refl)
 
 read-once-requires : tie.Need-read-once-requires Inv-loop μ-loop
-read-once-requires c κs = c .before .before .before .loop .inv .2
+read-once-requires c κs = search needs
 
 add-i : tie.Need-add-i Inv-loop μ-loop
 add-i c = search needs
@@ -33,7 +31,7 @@ loop-less : tie.Need-loop-less Inv-loop μ-loop
 loop-less c = search needs
 
 loop-again : tie.Need-loop-again Inv-loop μ-loop
-loop-again c = (search needs, search needs, c .before .before .before .before .before .before .before .before .loop .inv .2)
+loop-again c = (search needs, search needs)
 
 same-length : tie.Need-same-length Inv-loop μ-loop
 same-length c = search needs

@@ -1,3 +1,4 @@
+use Rattle.crossing.proofs.Passed.{signal-last}
 use borrow.Author.Needs.{needs}
 use Rattle.crossing.proofs.last_signal.Statement.{statement}
 use Rattle.crossing.proofs.last_signal.Tie as tie
@@ -27,7 +28,7 @@ same-length-2 : tie.Need-same-length-2
 same-length-2 c = search needs
 
 returns-3 : tie.Need-returns-3
-returns-3 c = simp (c .before .before .before .before .before .before .before .enum-told3 .given .1) (c .before .before .before .before .signal .ensures)
+returns-3 c = search (signal-last, needs)
 
 pub last-signal-spec : {M : Type 1} → statement M
 last-signal-spec =

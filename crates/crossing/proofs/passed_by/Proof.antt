@@ -1,12 +1,7 @@
 use Rattle.crossing.proofs.Passed.{at-last, at-done, at-earlier}
-use Rattle.registers.specs.Image.{images}
-use Rattle.rack.specs.Table.{treeOf}
 use borrow.Author.Needs.{needs}
 use Rattle.crossing.proofs.passed_by.Statement.{statement}
 use Rattle.crossing.proofs.passed_by.Tie as tie
-
-add-crossings : tie.Need-add-crossings
-add-crossings c = search needs
 
 enum-told : tie.Need-enum-told
 enum-told c = search needs
@@ -39,19 +34,10 @@ same-length-2 : tie.Need-same-length-2
 same-length-2 c = search needs
 
 returns : tie.Need-returns
-returns c =
-    let s = c .before .before .before .before in
-    let l = s .before .before .before in
-    let told = l .before .before .before in
-    let a = told .before .before .before .before .args in
-    at-last (treeOf (a .count) (a .words .now)) (images (a .bridges .now) (a .devices .now)) (a .x) (a .bus) (a .g) (a .crossings) (a .holder)
-    (told .enum-told .given .1) (l .last-outcome .ensures) (s .last-signal .ensures)
+returns c = search (at-last, needs)
 
 returns-2 : tie.Need-returns-2
-returns-2 c =
-    let a = c .before .before .before .before .args in
-    at-done (treeOf (a .count) (a .words .now)) (images (a .bridges .now) (a .devices .now)) (a .x) (a .bus) (a .g) (a .crossings) (a .holder)
-    (c .enum-told2 .given .1)
+returns-2 c = search (at-done, needs)
 
 same-length-3 : tie.Need-same-length-3
 same-length-3 c = search needs
@@ -60,19 +46,12 @@ same-length-4 : tie.Need-same-length-4
 same-length-4 c = search needs
 
 returns-3 : tie.Need-returns-3
-returns-3 c =
-    let s = c .before .before .before .before in
-    let n = s .before .before .before .before .before .before .before in
-    let told = n .before .before .before .before in
-    let a = told .before .before .before .before .args in
-    at-earlier (treeOf (a .count) (a .words .now)) (images (a .bridges .now) (a .devices .now)) (a .x) (a .bus) (a .g) (a .crossings) (a .holder)
-    (told .enum-told3 .given .1) (n .before .towards-later .ensures) (n .status-node .ensures) (s .signal .ensures)
+returns-3 c = search (at-earlier, needs)
 
 pub passed-by-spec : {M : Type 1} → statement M
 passed-by-spec =
     tie.close
     (tie.spec
-    add-crossings
     enum-told
     last-outcome-requires
     last-signal-requires

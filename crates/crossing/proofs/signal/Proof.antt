@@ -1,4 +1,4 @@
-use Rattle.steps.specs.Cross.{signalled}
+use Rattle.crossing.proofs.Passed.{signal-set}
 use borrow.Author.Needs.{needs}
 use Rattle.crossing.proofs.signal.Statement.{statement}
 use Rattle.crossing.proofs.signal.Tie as tie
@@ -16,10 +16,7 @@ same-length-2 : tie.Need-same-length-2
 same-length-2 c = search needs
 
 returns : tie.Need-returns
-unfolding signalled
-returns c =
-    let at-call = c .before .before .before .before in
-    simp (← at-call .before .side-on .ensures) (at-call .status-node .ensures)
+returns c = search (signal-set, needs)
 
 pub signal-spec : {M : Type 1} → statement M
 signal-spec =

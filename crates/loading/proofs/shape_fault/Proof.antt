@@ -1,5 +1,4 @@
-use mathlib.Core.Path.{ap, _∙_}
-use Rattle.rackfile.specs.Record.{isHost}
+use Rattle.rack.specs.FirstLaws.{chain-holds, chain-fails, chain-ends}
 use Rattle.rackfile.specs.Load.{shapeFault}
 use borrow.Author.Needs.{needs}
 use Rattle.loading.proofs.shape_fault.Statement.{statement}
@@ -10,28 +9,32 @@ no-kind-requires c κs = search needs
 
 returns : tie.Need-returns
 unfolding shapeFault
-returns c = simp (← c .before .no-kind .ensures, c .if1 .taken)
+returns c = search (chain-holds, needs)
 
 cut-short-requires : tie.Need-cut-short-requires
 cut-short-requires c κs = search needs
 
 returns-2 : tie.Need-returns-2
 unfolding shapeFault
-returns-2 c = simp (← c .before .before .before .no-kind .ensures, c .before .before .if1 .left, ← c .before .cut-short .ensures, c .if2 .taken)
+returns-2 c = search (chain-holds, chain-fails, needs)
 
-byte-at-requires : tie.Need-byte-at-requires
-byte-at-requires c κs = search needs
-
-is-host-requires : tie.Need-is-host-requires
-is-host-requires c κs = search needs
+host-wrong-requires : tie.Need-host-wrong-requires
+host-wrong-requires c κs = search needs
 
 returns-3 : tie.Need-returns-3
 unfolding shapeFault
-returns-3 c = simp (← c .before .before .before .before .before .before .no-kind .ensures, c .before .before .before .before .before .if1 .left, ← c .before .before .before .before .cut-short .ensures, c .before .before .before .if2 .left, ← c .before .is-host .ensures ∙ ap isHost (c .before .before .byte-at .ensures), c .if3 .taken)
+returns-3 c = search (chain-holds, chain-fails, needs)
+
+follows-event-requires : tie.Need-follows-event-requires
+follows-event-requires c κs = search needs
 
 returns-4 : tie.Need-returns-4
 unfolding shapeFault
-returns-4 c = simp (← c .before .before .before .before .before .before .no-kind .ensures, c .before .before .before .before .before .if1 .left, ← c .before .before .before .before .cut-short .ensures, c .before .before .before .if2 .left, ← c .before .is-host .ensures ∙ ap isHost (c .before .before .byte-at .ensures), c .if3 .left)
+returns-4 c = search (chain-holds, chain-fails, needs) depth 7
+
+returns-5 : tie.Need-returns-5
+unfolding shapeFault
+returns-5 c = search (chain-fails, chain-ends, needs) depth 7
 
 pub shape-fault-spec : {M : Type 1} → statement M
 shape-fault-spec =
@@ -41,7 +44,8 @@ shape-fault-spec =
     returns
     cut-short-requires
     returns-2
-    byte-at-requires
-    is-host-requires
+    host-wrong-requires
     returns-3
-    returns-4)
+    follows-event-requires
+    returns-4
+    returns-5)

@@ -1,7 +1,4 @@
-use mathlib.Core.Path.{ap, _∙_}
-use Rattle.rack.specs.Tree.{Tree}
-use Rattle.registers.specs.Image.{images}
-use Rattle.calls.specs.Call.{hostMemory, checkIn}
+use Rattle.open_calls.proofs.Over.{check-over}
 use borrow.Author.Needs.{needs}
 use Rattle.open_calls.proofs.run_check.Statement.{statement}
 use Rattle.open_calls.proofs.run_check.Tie as tie
@@ -13,8 +10,7 @@ check-on-requires : tie.Need-check-on-requires
 check-on-requires c κs = search needs
 
 returns : tie.Need-returns
-returns c = let a = c .before .before .before .before .before .before .args in
-    c .check-on .ensures ∙ ap (λ (t : Tree). checkIn t (hostMemory (a .rack)) (images (a .bridges .now) (a .devices .now))) (c .before .before .before .table-of .ensures)
+returns c = search (check-over, needs)
 
 pub run-check-spec : {M : Type 1} → statement M
 run-check-spec = tie.close (tie.spec table-of-requires check-on-requires returns)

@@ -1,7 +1,4 @@
-use mathlib.Core.Path.{ap, _∙_}
-use Rattle.rack.specs.Tree.{Tree}
-use Rattle.registers.specs.Image.{images}
-use Rattle.calls.specs.Call.{sizeIn}
+use Rattle.open_calls.proofs.Over.{size-over}
 use borrow.Author.Needs.{needs}
 use Rattle.open_calls.proofs.size_region.Statement.{statement}
 use Rattle.open_calls.proofs.size_region.Tie as tie
@@ -19,8 +16,7 @@ same-length-2 : tie.Need-same-length-2
 same-length-2 c = search needs
 
 returns : tie.Need-returns
-returns c = let a = c .before .before .before .before .before .before .before .before .before .before .before .before .args in
-    (c .before .before .before .before .size-on .ensures .0 ∙ ap (λ (t : Tree). sizeIn t (images (a .bridges .now) (a .devices .now)) (a .node) (a .region)) (c .before .before .before .before .before .before .before .before .before .table-of .ensures), c .before .before .before .before .size-on .ensures .1)
+returns c = (search (size-over, needs), search needs)
 
 pub size-region-spec : {M : Type 1} → statement M
 size-region-spec =

@@ -1,33 +1,32 @@
-use mathlib.Core.Path.{_≡_, refl, ap}
+use Rattle.rackrun.proofs.Onward.{counted-first, part-less}
+use mathlib.Core.Path.{_≡_, refl}
 use Prim.Native.Nat.{_+_, _-_, _≤_}
-use native.Mathlib.Omega.{arith}
 use lib.ListN.{length}
 use borrow.Author.Needs.{needs}
-use Rattle.output.specs.declared.Cursor.{Cursor}
 use Rattle.rackrun.proofs.print_events.Statement.{statement}
 use Rattle.rackrun.proofs.print_events.Tie as tie
 
 abbrev Inv-loop : tie.InvT-loop
-Inv-loop file words count bridges₀ devices₀ offset next₀ bridges devices next =
+Inv-loop file table bridges₀ devices₀ offset next₀ bridges devices next =
     (length bridges ≡ length bridges₀) × (length devices ≡ length devices₀) × (next .number ≤ next .offset + 1)
 
 abbrev μ-loop : tie.MeasureT-loop
-μ-loop file words count bridges₀ devices₀ offset next₀ bridges devices next = length file - next .offset
+μ-loop file table bridges₀ devices₀ offset next₀ bridges devices next = length file - next .offset
 
 start-requires : tie.Need-start-requires Inv-loop μ-loop
 start-requires c κs = search needs
 
 loop-holds : tie.Need-loop-holds Inv-loop μ-loop
-loop-holds c = (refl, refl, omega (arith, ap (λ (next : Cursor). next .number) (c .before .before .before .before .start .ensures .0)))
+loop-holds c = (refl, refl, search (counted-first, needs))
 
 print-part-requires : tie.Need-print-part-requires Inv-loop μ-loop
 print-part-requires c κs = search needs
 
 loop-less : tie.Need-loop-less Inv-loop μ-loop
-loop-less c = let on = c .before .before .before .before .print-part .ensures .1 (c .before .before .before .before .before .before .before .if1 .taken) in omega (arith, on, c .before .before .before .before .before .before .before .if1 .taken)
+loop-less c = search (part-less, needs)
 
 loop-again : tie.Need-loop-again Inv-loop μ-loop
-loop-again c = (search needs, search needs, c .before .before .before .before .print-part .ensures .0)
+loop-again c = search needs
 
 same-length : tie.Need-same-length Inv-loop μ-loop
 same-length c = search needs

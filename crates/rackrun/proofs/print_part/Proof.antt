@@ -1,4 +1,4 @@
-use native.Mathlib.Omega.{arith}
+use Rattle.rackrun.proofs.Onward.{part-counted, part-forward}
 use borrow.Author.Needs.{needs}
 use Rattle.rackrun.proofs.print_part.Statement.{statement}
 use Rattle.rackrun.proofs.print_part.Tie as tie
@@ -22,10 +22,7 @@ same-length-2 : tie.Need-same-length-2
 same-length-2 c = search needs
 
 returns : tie.Need-returns
-returns c =
-    let o = c .before .before .before .before .before .before .before .before .before .before .before .fill .ensures .1 in
-    let room = c .before .before .before .before .before .before .before .before .before .before .before .before .before .before .before .before .large-buffer .ensures in
-    (o .counted, o .forward (omega (arith, room)))
+returns c = (search (part-counted, needs), search (part-forward, needs))
 
 same-length-3 : tie.Need-same-length-3
 same-length-3 c = search needs

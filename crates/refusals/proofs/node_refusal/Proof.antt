@@ -1,3 +1,4 @@
+use Rattle.rack.specs.FirstLaws.{chain-holds, chain-fails, chain-ends}
 use Rattle.rack.specs.Refusal.{nodeRefusal}
 use borrow.Author.Needs.{needs}
 use Rattle.refusals.proofs.node_refusal.Statement.{statement}
@@ -8,39 +9,39 @@ too-many-requires c κs = search needs
 
 returns : tie.Need-returns
 unfolding nodeRefusal
-returns c = simp (← c .before .too-many .ensures, c .if1 .taken)
+returns c = search (chain-holds, needs)
 
 bad-parent-requires : tie.Need-bad-parent-requires
 bad-parent-requires c κs = search needs
 
 returns-2 : tie.Need-returns-2
 unfolding nodeRefusal
-returns-2 c = simp (← c .before .before .before .too-many .ensures, c .before .before .if1 .left, ← c .before .bad-parent .ensures, c .if2 .taken)
+returns-2 c = search (chain-holds, chain-fails, needs)
 
 high-device-requires : tie.Need-high-device-requires
 high-device-requires c κs = search needs
 
 returns-3 : tie.Need-returns-3
 unfolding nodeRefusal
-returns-3 c = simp (← c .before .before .before .before .before .too-many .ensures, c .before .before .before .before .if1 .left, ← c .before .before .before .bad-parent .ensures, c .before .before .if2 .left, ← c .before .high-device .ensures, c .if3 .taken)
+returns-3 c = search (chain-holds, chain-fails, needs)
 
 taken-device-requires : tie.Need-taken-device-requires
 taken-device-requires c κs = search needs
 
 returns-4 : tie.Need-returns-4
 unfolding nodeRefusal
-returns-4 c = simp (← c .before .before .before .before .before .before .before .too-many .ensures, c .before .before .before .before .before .before .if1 .left, ← c .before .before .before .before .before .bad-parent .ensures, c .before .before .before .before .if2 .left, ← c .before .before .before .high-device .ensures, c .before .before .if3 .left, ← c .before .taken-device .ensures, c .if4 .taken)
+returns-4 c = search (chain-holds, chain-fails, needs) depth 7
 
 bad-region-requires : tie.Need-bad-region-requires
 bad-region-requires c κs = search needs
 
 returns-5 : tie.Need-returns-5
 unfolding nodeRefusal
-returns-5 c = simp (← c .before .before .before .before .before .before .before .before .before .too-many .ensures, c .before .before .before .before .before .before .before .before .if1 .left, ← c .before .before .before .before .before .before .before .bad-parent .ensures, c .before .before .before .before .before .before .if2 .left, ← c .before .before .before .before .before .high-device .ensures, c .before .before .before .before .if3 .left, ← c .before .before .before .taken-device .ensures, c .before .before .if4 .left, ← c .before .bad-region .ensures, c .if5 .taken)
+returns-5 c = search (chain-holds, chain-fails, needs) depth 7
 
 returns-6 : tie.Need-returns-6
 unfolding nodeRefusal
-returns-6 c = simp (← c .before .before .before .before .before .before .before .before .before .too-many .ensures, c .before .before .before .before .before .before .before .before .if1 .left, ← c .before .before .before .before .before .before .before .bad-parent .ensures, c .before .before .before .before .before .before .if2 .left, ← c .before .before .before .before .before .high-device .ensures, c .before .before .before .before .if3 .left, ← c .before .before .before .taken-device .ensures, c .before .before .if4 .left, ← c .before .bad-region .ensures, c .if5 .left)
+returns-6 c = search (chain-fails, chain-ends, needs) depth 7
 
 pub node-refusal-spec : {M : Type 1} → statement M
 node-refusal-spec =

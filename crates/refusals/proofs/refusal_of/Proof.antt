@@ -1,35 +1,31 @@
-use Rattle.rack.specs.RefusalLaws.{refusal-found, refusal-next, refusal-none}
-use Rattle.rack.specs.Refusal.{refusalFrom}
-use Rattle.rack.specs.Table.{nodeAt}
 use borrow.Author.Needs.{needs}
-use native.Mathlib.Omega.{arith}
 use Prim.Native.Nat.{_-_}
-use mathlib.Core.Path.{_≡_, sym, ap, _∙_}
+use Rattle.rack.specs.FirstLaws.{NoneBefore, none-yet, none-next, first-found, none-found}
+use Rattle.rack.specs.Refusal.{nodeRefusal}
+use Rattle.rack.specs.Table.{nodeAt}
 use Rattle.refusals.proofs.refusal_of.Statement.{statement}
 use Rattle.refusals.proofs.refusal_of.Tie as tie
 
 abbrev Inv-loop : tie.InvT-loop
-Inv-loop words count end i₀ i = refusalFrom (nodeAt words) 0 count ≡ refusalFrom (nodeAt words) i (count - i)
+Inv-loop table end i₀ i = NoneBefore (nodeRefusal (nodeAt table)) end i
 
 abbrev μ-loop : tie.MeasureT-loop
-μ-loop words count end i₀ i = count - i
+μ-loop table end i₀ i = end - i
+
+count-of-requires : tie.Need-count-of-requires Inv-loop μ-loop
+count-of-requires c κs = search needs
+
+cast-end : tie.Need-cast-end Inv-loop μ-loop
+cast-end c = search needs
 
 loop-holds : tie.Need-loop-holds Inv-loop μ-loop
-loop-holds c =
-    let e : c .args .count ≡ c .args .count - 0 = omega arith in
-    ap (refusalFrom (nodeAt (c .args .words .now)) 0) e
+loop-holds c = search (none-yet, needs)
 
 node-refusal-requires : tie.Need-node-refusal-requires Inv-loop μ-loop
 node-refusal-requires c κs = search needs
 
 returns : tie.Need-returns Inv-loop μ-loop
-returns c =
-    let at-loop = c .before .before .before in
-    let a = at-loop .before .args in
-    let e = c .before .node-refusal .ensures in
-    sym (at-loop .loop .inv
-    ∙ refusal-found (nodeAt (a .words .now)) (at-loop .loop .i) (a .count) (c .before .before .loop-test .taken) (λ z. c .if1 .taken (e ∙ z))
-    ∙ sym e)
+returns c = search (first-found, needs)
 
 add-i : tie.Need-add-i Inv-loop μ-loop
 add-i c = search needs
@@ -38,16 +34,10 @@ loop-less : tie.Need-loop-less Inv-loop μ-loop
 loop-less c = search needs
 
 loop-again : tie.Need-loop-again Inv-loop μ-loop
-loop-again c =
-    let at-loop = c .before .before .before in
-    let a = at-loop .before .args in
-    at-loop .loop .inv
-    ∙ refusal-next (nodeAt (a .words .now)) (at-loop .loop .i) (a .count) (c .before .before .loop-test .taken) (sym (c .before .node-refusal .ensures) ∙ c .if1 .left)
+loop-again c = search (none-next, needs)
 
 returns-2 : tie.Need-returns-2 Inv-loop μ-loop
-returns-2 c =
-    let a = c .before .before .args in
-    sym (c .before .loop .inv ∙ refusal-none (nodeAt (a .words .now)) (c .before .loop .i) (a .count) (c .loop-test .left))
+returns-2 c = search (none-found, needs)
 
 pub refusal-of-spec : {M : Type 1} → statement M
 refusal-of-spec =
@@ -55,6 +45,8 @@ refusal-of-spec =
     (tie.spec
     Inv-loop
     μ-loop
+    count-of-requires
+    cast-end
     loop-holds
     node-refusal-requires
     returns

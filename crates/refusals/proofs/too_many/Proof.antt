@@ -18,19 +18,13 @@ is-bridge-requires c κs = search needs
 sub-result : tie.Need-sub-result
 sub-result c =
     let a = c .before .before .before .before .args in
-    omega (arith, c .before .before .before .bridges-below .ensures, below-le (nodeAt (a .words .now)) (a .i))
+    omega (arith, c .before .before .before .bridges-below .ensures, below-le (nodeAt (a .table .now)) (a .i))
 
 returns : tie.Need-returns
-returns c =
-    let a = c .before .before .before .before .args in
-    many-bridges (nodeAt (a .words .now)) (a .i) (c .before .before .before .bridges-below .ensures) (c .before .before .node-at .ensures)
-    (c .before .is-bridge .ensures) (c .if1 .taken)
+returns c = search (many-bridges, needs)
 
 returns-2 : tie.Need-returns-2
-returns-2 c =
-    let a = c .before .before .before .before .args in
-    many-devices (nodeAt (a .words .now)) (a .i) (c .before .before .before .bridges-below .ensures) (c .before .before .node-at .ensures)
-    (c .before .is-bridge .ensures) (c .if1 .left)
+returns-2 c = search (many-devices, needs)
 
 pub too-many-spec : {M : Type 1} → statement M
 too-many-spec =

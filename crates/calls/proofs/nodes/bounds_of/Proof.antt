@@ -12,7 +12,7 @@ returns : tie.Need-returns
 returns c = search needs
 
 returns-2 : tie.Need-returns-2
-returns-2 c = simp (c .before .e .given .1)
+returns-2 c = rw (c .before .e .given .1)
 
 pub bounds-of-spec : {M : Type 1} → statement M
 bounds-of-spec = tie.close (tie.spec enum-told enum-known-e returns returns-2)

@@ -1,13 +1,11 @@
-use Rattle.rack.specs.Table.{treeOf}
-use Rattle.registers.specs.Image.{images}
-use mathlib.Core.Path.{refl}
-use Rattle.calls.proofs.Calling.{size-refused, size-value}
+use Rattle.calls.specs.Call.{sizeIn}
+use Rattle.calls.proofs.Calling.{is-refused, is-given}
 use borrow.Author.Needs.{needs}
 use Rattle.calls.proofs.nodes.size_on.Statement.{statement}
 use Rattle.calls.proofs.nodes.size_on.Tie as tie
 
-region-wrong-requires : tie.Need-region-wrong-requires
-region-wrong-requires c κs = search needs
+region-refusal-requires : tie.Need-region-refusal-requires
+region-refusal-requires c κs = search needs
 
 refusal-by-requires : tie.Need-refusal-by-requires
 refusal-by-requires c κs = search needs
@@ -19,8 +17,8 @@ same-length-2 : tie.Need-same-length-2
 same-length-2 c = search needs
 
 returns : tie.Need-returns
-returns c = let a = c .before .before .before .before .before .before .before .args in
-    (size-refused (treeOf (a .count) (a .words .now)) (images (a .bridges .now) (a .devices .now)) (a .node) (a .region) (c .before .before .before .before .region-wrong .ensures) (c .before .refusal-by .ensures) (c .if1 .taken), refl)
+unfolding sizeIn
+returns c = search (is-refused, needs)
 
 size-region-requires : tie.Need-size-region-requires
 size-region-requires c κs = search needs
@@ -32,14 +30,14 @@ same-length-4 : tie.Need-same-length-4
 same-length-4 c = search needs
 
 returns-2 : tie.Need-returns-2
-returns-2 c = let a = c .before .before .before .before .before .before .before .before .before .before .before .before .before .before .args in
-    (size-value (treeOf (a .count) (a .words .now)) (images (a .bridges .now) (a .devices .now)) (a .node) (a .region) (c .before .before .before .before .before .before .before .before .before .before .before .region-wrong .ensures) (c .before .before .before .before .before .before .before .before .refusal-by .ensures) (c .before .before .before .before .before .before .before .if1 .left) (c .before .before .before .before .size-region .ensures .0), c .before .before .before .before .size-region .ensures .1)
+unfolding sizeIn
+returns-2 c = search (is-given, needs)
 
 pub size-on-spec : {M : Type 1} → statement M
 size-on-spec =
     tie.close
     (tie.spec
-    region-wrong-requires
+    region-refusal-requires
     refusal-by-requires
     same-length
     same-length-2

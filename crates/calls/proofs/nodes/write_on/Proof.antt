@@ -1,10 +1,11 @@
-use Rattle.rack.specs.Table.{treeOf}
-use Rattle.registers.specs.Image.{images}
-use mathlib.Core.Path.{sym, _∙_}
-use Rattle.calls.proofs.Calling.{write-refused, write-stored}
+use Rattle.calls.specs.Call.{storedIn}
+use Rattle.calls.proofs.Calling.{is-refused, is-given, is-number, is-none}
 use borrow.Author.Needs.{needs}
 use Rattle.calls.proofs.nodes.write_on.Statement.{statement}
 use Rattle.calls.proofs.nodes.write_on.Tie as tie
+
+store-refusal-requires : tie.Need-store-refusal-requires
+store-refusal-requires c κs = search needs
 
 refusal-by-requires : tie.Need-refusal-by-requires
 refusal-by-requires c κs = search needs
@@ -16,8 +17,8 @@ same-length-2 : tie.Need-same-length-2
 same-length-2 c = search needs
 
 returns : tie.Need-returns
-returns c = let a = c .before .before .before .before .before .before .args in
-    (c .before .refusal-by .ensures, write-refused (treeOf (a .count) (a .words .now)) (images (a .bridges .now) (a .devices .now)) (a .node) (a .register) (a .enables) (a .put) (c .before .refusal-by .ensures) (c .if1 .taken))
+unfolding storedIn
+returns c = (search (is-number, needs), search (is-refused, needs))
 
 write-node-requires : tie.Need-write-node-requires
 write-node-requires c κs = search needs
@@ -29,13 +30,14 @@ same-length-4 : tie.Need-same-length-4
 same-length-4 c = search needs
 
 returns-2 : tie.Need-returns-2
-returns-2 c = let a = c .before .before .before .before .before .before .before .before .before .before .before .before .before .args in
-    (sym (c .before .before .before .before .before .before .before .if1 .left) ∙ c .before .before .before .before .before .before .before .before .refusal-by .ensures, c .before .before .before .before .write-node .ensures ∙ write-stored (treeOf (a .count) (a .words .now)) (images (a .bridges .now) (a .devices .now)) (a .node) (a .register) (a .enables) (a .put) (c .before .before .before .before .before .before .before .before .refusal-by .ensures) (c .before .before .before .before .before .before .before .if1 .left))
+unfolding storedIn
+returns-2 c = (search (is-none, needs), search (is-given, needs))
 
 pub write-on-spec : {M : Type 1} → statement M
 write-on-spec =
     tie.close
     (tie.spec
+    store-refusal-requires
     refusal-by-requires
     same-length
     same-length-2

@@ -1,9 +1,5 @@
-use Rattle.overlap.specs.StretchLaws.{two-agents}
-use Rattle.registers.specs.Image.{images}
-use Rattle.rack.specs.Table.{treeOf}
-use native.Mathlib.Omega.{arith}
-use mathlib.Core.Path.{sym}
 use borrow.Author.Needs.{needs}
+use Rattle.checks.proofs.Reports.{few-pass}
 use Rattle.checks.proofs.buses.bus_report.Statement.{statement}
 use Rattle.checks.proofs.buses.bus_report.Tie as tie
 
@@ -11,18 +7,13 @@ agent-count-requires : tie.Need-agent-count-requires
 agent-count-requires c κs = search needs
 
 returns : tie.Need-returns
-returns c =
-    let a = c .before .before .before .before .args in
-    sym (two-agents (treeOf (a .count) (a .words .now)) (a .host) (images (a .bridges .now) (a .devices .now)) (a .bus)
-    (omega (arith, c .if1 .taken, c .before .agent-count .ensures)))
+returns c = search (few-pass, needs)
 
 agents-on-requires : tie.Need-agents-on-requires
 agents-on-requires c κs = search needs
 
 spaces-report-requires : tie.Need-spaces-report-requires
-spaces-report-requires c κs =
-    let n = c .before .before .agent-count .ensures in
-    (n, omega (arith, n, c .before .before .before .before .before .pre), c .agents-on .ensures)
+spaces-report-requires c κs = search needs
 
 returns-2 : tie.Need-returns-2
 returns-2 c = search needs

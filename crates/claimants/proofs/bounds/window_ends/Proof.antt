@@ -1,6 +1,7 @@
 use Rattle.claims.specs.Ends.{windowEnds}
-use borrow.Author.Tests.{lt-ltb, le-ltb}
+use borrow.Author.Tests.{le-ltb}
 use borrow.Author.Needs.{needs}
+use Rattle.claimants.proofs.Decoded.{ends-window, ends-region}
 use Rattle.claimants.proofs.bounds.window_ends.Statement.{statement}
 use Rattle.claimants.proofs.bounds.window_ends.Tie as tie
 
@@ -23,19 +24,7 @@ ends-of-requires : tie.Need-ends-of-requires
 ends-of-requires c κs = search needs
 
 returns : tie.Need-returns
-unfolding windowEnds
-returns c =
-    let f = c .before .before .before .before in
-    simp (
-      lt-ltb _ _ (f .before .before .before .if1 .taken),
-      ← f .before .before .node-at .ensures,
-      ← f .is-bridge .ensures,
-      c .before .before .before .if2 .taken,
-      ← f .before .view-of .ensures,
-      c .ends-of .ensures,
-      c .before .window-in .ensures,
-      c .before .before .windows-of .ensures,
-    )
+returns c = search (ends-window, needs)
 
 area-in-requires : tie.Need-area-in-requires
 area-in-requires c κs = search needs
@@ -44,18 +33,7 @@ ends-of-requires-2 : tie.Need-ends-of-requires-2
 ends-of-requires-2 c κs = search needs
 
 returns-2 : tie.Need-returns-2
-unfolding windowEnds
-returns-2 c =
-    let f = c .before .before .before in
-    simp (
-      lt-ltb _ _ (f .before .before .before .if1 .taken),
-      ← f .before .before .node-at .ensures,
-      ← f .is-bridge .ensures,
-      c .before .before .if2 .left,
-      ← f .before .view-of .ensures,
-      c .ends-of2 .ensures,
-      c .before .area-in .ensures,
-    )
+returns-2 c = search (ends-region, needs)
 
 returns-3 : tie.Need-returns-3
 unfolding windowEnds

@@ -1,6 +1,7 @@
-use borrow.Author.Tests.{eq-eqb, ne-eqb}
-use mathlib.Core.Bool.{and-false, and-true}
+use borrow.Author.Tests.{eq-eqb}
+use mathlib.Core.Bool.{and-false}
 use borrow.Author.Needs.{needs}
+use Rattle.claimants.proofs.OnBus.{counted-is}
 use Rattle.claimants.proofs.bus.counts.Statement.{statement}
 use Rattle.claimants.proofs.bus.counts.Tie as tie
 
@@ -14,7 +15,7 @@ claims-requires : tie.Need-claims-requires
 claims-requires c κs = search needs
 
 returns-2 : tie.Need-returns-2
-returns-2 c = simp (ne-eqb _ _ (c .before .before .if1 .left), and-true, c .claims .ensures, c .before .agent-at .ensures)
+returns-2 c = search (counted-is, needs)
 
 pub counts-spec : {M : Type 1} → statement M
 counts-spec = tie.close (tie.spec returns agent-at-requires claims-requires returns-2)

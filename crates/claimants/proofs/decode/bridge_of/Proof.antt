@@ -1,7 +1,4 @@
-use Rattle.claims.specs.Agent.{bridgeOf}
-use Prim.Native.Nat.{_/_}
-use native.Mathlib.Omega.{arith}
-use mathlib.Core.Path.{_≡_}
+use Rattle.claimants.proofs.Decoded.{bridge-is}
 use borrow.Author.Needs.{needs}
 use Rattle.claimants.proofs.decode.bridge_of.Statement.{statement}
 use Rattle.claimants.proofs.decode.bridge_of.Tie as tie
@@ -22,11 +19,7 @@ bus-range-requires : tie.Need-bus-range-requires
 bus-range-requires c κs = search needs
 
 returns : tie.Need-returns
-unfolding bridgeOf
-returns c =
-    let at-byte = c .before .before .before .before in
-    let e : at-byte .byte-at .result / 1 ≡ at-byte .byte-at .result = omega arith in
-    simp (← at-byte .byte-at .ensures, e, c .before .before .before .windows-of .ensures, c .bus-range .ensures, c .before .byte-at3 .ensures, c .before .before .byte-at2 .ensures)
+returns c = search (bridge-is, needs)
 
 pub bridge-of-spec : {M : Type 1} → statement M
 bridge-of-spec =

@@ -12,7 +12,7 @@ holds-address-requires-3 : tie.Need-holds-address-requires-3
 holds-address-requires-3 c κs = search needs
 
 returns : tie.Need-returns
-returns c = simp (c .holds-address3 .ensures, c .before .holds-address2 .ensures, c .before .before .holds-address .ensures)
+returns c = cc
 
 pub in-regions-spec : {M : Type 1} → statement M
 in-regions-spec =

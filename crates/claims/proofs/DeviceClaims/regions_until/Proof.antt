@@ -1,4 +1,4 @@
-use Rattle.claims.specs.Claim.{regionsUntil}
+use Rattle.claims.proofs.Reach.{until-is}
 use borrow.Author.Needs.{needs}
 use Rattle.claims.proofs.DeviceClaims.regions_until.Statement.{statement}
 use Rattle.claims.proofs.DeviceClaims.regions_until.Tie as tie
@@ -13,8 +13,7 @@ cut-range-requires-3 : tie.Need-cut-range-requires-3
 cut-range-requires-3 c κs = search needs
 
 returns : tie.Need-returns
-unfolding regionsUntil
-returns c = simp (c .cut-range3 .ensures, c .before .cut-range2 .ensures, c .before .before .cut-range .ensures)
+returns c = search (until-is, needs)
 
 pub regions-until-spec : {M : Type 1} → statement M
 regions-until-spec =

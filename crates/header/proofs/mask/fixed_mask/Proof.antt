@@ -9,7 +9,7 @@ clear-mask-requires : tie.Need-clear-mask-requires
 clear-mask-requires c κs = search needs
 
 returns : tie.Need-returns
-returns c = rw (c .clear-mask .ensures, c .before .write-mask .ensures)
+returns c = cc
 
 pub fixed-mask-spec : {M : Type 1} → statement M
 fixed-mask-spec = tie.close (tie.spec write-mask-requires clear-mask-requires returns)

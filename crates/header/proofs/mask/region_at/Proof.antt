@@ -1,8 +1,5 @@
-use mathlib.Core.Path.{_≡_}
-use Prim.Native.Nat.{_-_, _/_}
-use native.Mathlib.Omega.{arith}
 use borrow.Author.Needs.{needs}
-use Rattle.header.specs.Offset.{BASE-ADDRESS}
+use Rattle.header.proofs.Masks.{region-first}
 use Rattle.header.proofs.mask.region_at.Statement.{statement}
 use Rattle.header.proofs.mask.region_at.Tie as tie
 
@@ -13,9 +10,7 @@ element-copy-out-result : tie.Need-element-copy-out-result
 element-copy-out-result c = search needs
 
 returns : tie.Need-returns
-returns c =
-    let low : (c .before .before .args .at - BASE-ADDRESS) / 8 ≡ 0 = omega arith in
-    rw low
+returns c = search (region-first, needs)
 
 mul-result : tie.Need-mul-result
 mul-result c = search needs

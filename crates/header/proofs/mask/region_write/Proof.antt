@@ -1,6 +1,7 @@
-use borrow.Author.Tests.{eq-eqb, ne-eqb, lt-ltb, le-ltb}
+use borrow.Author.Tests.{eq-eqb}
 use borrow.Author.Needs.{needs}
 use Rattle.header.specs.Mask.{regionWrite}
+use Rattle.header.proofs.Masks.{write-low, write-high, write-none}
 use Rattle.header.proofs.mask.region_write.Statement.{statement}
 use Rattle.header.proofs.mask.region_write.Tie as tie
 
@@ -15,16 +16,13 @@ byte-of-requires : tie.Need-byte-of-requires
 byte-of-requires c κs = search needs
 
 returns-2 : tie.Need-returns-2
-unfolding regionWrite
-returns-2 c = simp (ne-eqb _ _ (c .before .before .before .if1 .left), lt-ltb _ _ (c .before .before .if2 .taken), c .byte-of .ensures, c .before .high-bits .ensures)
+returns-2 c = search (write-low, needs)
 
 returns-3 : tie.Need-returns-3
-unfolding regionWrite
-returns-3 c = simp (ne-eqb _ _ (c .before .before .if1 .left), le-ltb _ _ (c .before .if2 .left), eq-eqb _ _ (c .if3 .taken))
+returns-3 c = search (write-high, needs)
 
 returns-4 : tie.Need-returns-4
-unfolding regionWrite
-returns-4 c = simp (ne-eqb _ _ (c .before .before .if1 .left), le-ltb _ _ (c .before .if2 .left), ne-eqb _ _ (c .if3 .left))
+returns-4 c = search (write-none, needs)
 
 pub region-write-spec : {M : Type 1} → statement M
 region-write-spec =

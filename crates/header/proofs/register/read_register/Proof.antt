@@ -1,6 +1,7 @@
-use borrow.Author.Tests.{lt-ltb, le-ltb}
+use borrow.Author.Tests.{le-ltb}
 use borrow.Author.Needs.{needs}
 use Rattle.header.specs.Register.{readRegister}
+use Rattle.header.proofs.Four.{four-read}
 use Rattle.header.proofs.register.read_register.Statement.{statement}
 use Rattle.header.proofs.register.read_register.Tie as tie
 
@@ -29,8 +30,7 @@ dword-of-requires : tie.Need-dword-of-requires
 dword-of-requires c κs = search needs
 
 returns : tie.Need-returns
-unfolding readRegister
-returns c = simp (lt-ltb _ _ (c .before .before .before .before .before .if1 .taken), c .dword-of .ensures, c .before .byte-at4 .ensures, c .before .before .byte-at3 .ensures, c .before .before .before .byte-at2 .ensures, c .before .before .before .before .byte-at .ensures)
+returns c = search (four-read, needs)
 
 returns-2 : tie.Need-returns-2
 unfolding readRegister

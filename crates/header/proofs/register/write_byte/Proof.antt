@@ -1,7 +1,6 @@
-use mathlib.Core.Path.{sym}
 use borrow.Author.Needs.{needs}
-use lib.Seq.{set-out}
 use Rattle.header.specs.Register.{writeByte}
+use Rattle.header.proofs.Four.{byte-on, byte-past}
 use Rattle.header.proofs.register.write_byte.Statement.{statement}
 use Rattle.header.proofs.register.write_byte.Tie as tie
 
@@ -24,12 +23,10 @@ same-length : tie.Need-same-length
 same-length c = search needs
 
 returns : tie.Need-returns
-unfolding writeByte
-returns c = rw (c .before .before .before .before .before .if1 .taken) (cc)
+returns c = search (byte-on, needs)
 
 returns-2 : tie.Need-returns-2
-unfolding writeByte
-returns-2 c = rw (c .before .if1 .taken) (sym (set-out _ _ _ (c .if2 .left)))
+returns-2 c = search (byte-past, needs)
 
 returns-3 : tie.Need-returns-3
 unfolding writeByte

@@ -1,7 +1,6 @@
-use mathlib.Core.Path.{sym}
 use borrow.Author.Needs.{needs}
-use lib.Seq.{set-out}
 use Rattle.header.specs.Register.{setStatus}
+use Rattle.header.proofs.Four.{status-past}
 use Rattle.header.proofs.status.set_status.Statement.{statement}
 use Rattle.header.proofs.status.set_status.Tie as tie
 
@@ -25,8 +24,7 @@ unfolding setStatus
 returns c = cc
 
 returns-2 : tie.Need-returns-2
-unfolding setStatus
-returns-2 c = rw (← c .before .status-at .ensures) (sym (set-out _ _ _ (c .if1 .left)))
+returns-2 c = search (status-past, needs)
 
 pub set-status-spec : {M : Type 1} → statement M
 set-status-spec =

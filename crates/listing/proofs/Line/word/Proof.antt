@@ -1,3 +1,4 @@
+use borrow.Author.Needs.{needs}
 use Prim.Native.Nat.{_≤_, _+_, _-_}
 use mathlib.Core.Path.{_≡_}
 use native.Mathlib.Omega.{arith}
@@ -29,13 +30,10 @@ loop-less : tie.Need-loop-less Inv-loop μ-loop
 loop-less c = omega arith
 
 loop-again : tie.Need-loop-again Inv-loop μ-loop
-loop-again c =
-    let at-test = c .before .before in
-    let at-loop = at-test .before in
-    (omega arith, omega (arith, c .byte .ensures .next), copied-more _ _ _ (at-test .loop-test .taken) (at-loop .loop .inv .2) (c .byte .ensures))
+loop-again c = (omega arith, omega (arith, c .byte .ensures .next), search (copied-more, needs))
 
 returns : tie.Need-returns Inv-loop μ-loop
-returns c = copied-all _ _ _ (c .loop-test .left) (c .before .loop .inv .2)
+returns c = search (copied-all, needs)
 
 pub word-spec : {M : Type 1} → statement M
 word-spec =

@@ -1,4 +1,5 @@
-use Rattle.listing.specs.Line.{spaced, endingFields}
+use Rattle.listing.proofs.Fields.{line-field, line-ended}
+use Rattle.listing.specs.Line.{endingFields}
 use borrow.Author.Needs.{needs}
 use Rattle.listing.proofs.ending.silent_line.Statement.{statement}
 use Rattle.listing.proofs.ending.silent_line.Tie as tie
@@ -13,8 +14,8 @@ byte-requires : tie.Need-byte-requires
 byte-requires c κs = search needs
 
 returns : tie.Need-returns
-unfolding spaced endingFields
-returns c = (simp (c .byte .ensures .text, c .before .begun .ensures .0), search needs)
+unfolding endingFields
+returns c = (search (line-field, line-ended, needs), search needs)
 
 pub silent-line-spec : {M : Type 1} → statement M
 silent-line-spec = tie.close (tie.spec slice-aggregate-begun begun-requires byte-requires returns)

@@ -1,5 +1,4 @@
-use native.Mathlib.Omega.{arith}
-use Rattle.listing.proofs.Digits.{decimal-ten}
+use Rattle.listing.proofs.Fields.{begun-number, begun-word, begun-text, begun-short}
 use borrow.Author.Needs.{needs}
 use Rattle.listing.proofs.field.begun.Statement.{statement}
 use Rattle.listing.proofs.field.begun.Tie as tie
@@ -8,15 +7,13 @@ new-requires : tie.Need-new-requires
 new-requires c κs = search needs
 
 decimal-requires : tie.Need-decimal-requires
-decimal-requires c κs = omega (arith, decimal-ten (c .before .before .args .n) (omega arith))
+decimal-requires c κs = search (begun-number, needs)
 
 word-field-requires : tie.Need-word-field-requires
-word-field-requires c κs = omega (arith, decimal-ten (c .before .before .before .args .n) (omega arith))
+word-field-requires c κs = search (begun-word, needs)
 
 returns : tie.Need-returns
-returns c =
-    let short = decimal-ten (c .before .before .before .before .args .n) (omega arith) in
-    (simp (c .word-field .ensures .text, c .before .decimal .ensures .text, c .before .before .new .ensures .0), omega (arith, short))
+returns c = (search (begun-text, needs), search (begun-short, needs))
 
 pub begun-spec : {M : Type 1} → statement M
 begun-spec = tie.close (tie.spec new-requires decimal-requires word-field-requires returns)

@@ -1,4 +1,4 @@
-use Rattle.listing.specs.Line.{spaced}
+use Rattle.listing.proofs.Fields.{line-first, line-field, line-ended}
 use borrow.Author.Needs.{needs}
 use Rattle.listing.proofs.refused.refused_line.Statement.{statement}
 use Rattle.listing.proofs.refused.refused_line.Tie as tie
@@ -28,18 +28,7 @@ byte-requires : tie.Need-byte-requires
 byte-requires c κs = search needs
 
 returns : tie.Need-returns
-unfolding spaced
-returns c = (
-  simp (
-    c .byte .ensures .text,
-    c .before .decimal-field2 .ensures .0 .text,
-    c .before .before .word-field .ensures .text,
-    c .before .before .before .before .decimal-field .ensures .0 .text,
-    c .before .before .before .before .before .word .ensures .text,
-    c .before .before .before .before .before .before .before .new .ensures .0,
-  ),
-  search needs,
-)
+returns c = (search (line-first, line-field, line-ended, needs), search needs)
 
 pub refused-line-spec : {M : Type 1} → statement M
 refused-line-spec =

@@ -1,4 +1,5 @@
-use Rattle.listing.specs.Line.{spaced, reportFields}
+use Rattle.listing.proofs.Fields.{line-field, line-ended}
+use Rattle.listing.specs.Line.{reportFields}
 use borrow.Author.Needs.{needs}
 use Rattle.listing.proofs.report.fault_line.Statement.{statement}
 use Rattle.listing.proofs.report.fault_line.Tie as tie
@@ -31,20 +32,8 @@ byte-requires : tie.Need-byte-requires
 byte-requires c κs = search needs
 
 returns : tie.Need-returns
-unfolding spaced reportFields
-returns c = (
-  simp (
-    c .byte .ensures .text,
-    c .before .decimal-field4 .ensures .0 .text,
-    c .before .before .decimal-field3 .ensures .0 .text,
-    c .before .before .before .decimal-field2 .ensures .0 .text,
-    c .before .before .before .before .hex-field .ensures .0 .text,
-    c .before .before .before .before .before .space-field .ensures .0 .text,
-    c .before .before .before .before .before .before .decimal-field .ensures .0 .text,
-    c .before .before .before .before .before .before .before .begun .ensures .0,
-  ),
-  search needs,
-)
+unfolding reportFields
+returns c = (search (line-field, line-ended, needs) depth 8, search needs)
 
 pub fault-line-spec : {M : Type 1} → statement M
 fault-line-spec =

@@ -1,4 +1,3 @@
-use Rattle.registers.specs.Image.{images}
 use Rattle.muzgante.proofs.Calling.{reset-without-rack, reset-of-lengths, reset-made}
 use borrow.Author.Needs.{needs}
 use Rattle.muzgante.proofs.screen.rack_reset.Statement.{statement}
@@ -8,8 +7,7 @@ load-alone-requires : tie.Need-load-alone-requires
 load-alone-requires c κs = search needs
 
 returns : tie.Need-returns
-returns c = let a = c .before .before .before .before .before .args in
-    reset-without-rack (a .rack .now) (c .before .load-alone .ensures) (images (a .bridges .now) (a .devices .now)) (c .if1 .taken)
+returns c = search (reset-without-rack, needs)
 
 lengths-wrong-requires : tie.Need-lengths-wrong-requires
 lengths-wrong-requires c κs = search needs
@@ -21,8 +19,7 @@ same-length-2 : tie.Need-same-length-2
 same-length-2 c = search needs
 
 returns-2 : tie.Need-returns-2
-returns-2 c = let a = c .before .before .before .before .before .before .before .before .before .before .before .args in
-    reset-of-lengths (a .rack .now) (c .before .before .before .before .before .before .before .load-alone .ensures) (images (a .bridges .now) (a .devices .now)) (c .before .before .before .before .before .before .if1 .left) (c .before .lengths-wrong .ensures) (c .if2 .taken)
+returns-2 c = search (reset-of-lengths, needs)
 
 reset-images-requires : tie.Need-reset-images-requires
 reset-images-requires c κs = search needs
@@ -34,8 +31,7 @@ same-length-4 : tie.Need-same-length-4
 same-length-4 c = search needs
 
 returns-3 : tie.Need-returns-3
-returns-3 c = let a = c .before .before .before .before .before .before .before .before .before .before .before .before .before .before .before .before .before .before .before .before .args in
-    reset-made (a .rack .now) (c .before .before .before .before .before .before .before .before .before .before .before .before .before .before .before .before .load-alone .ensures) (images (a .bridges .now) (a .devices .now)) (c .before .before .before .before .before .before .before .before .before .before .before .before .before .before .before .if1 .left) (c .before .before .before .before .before .before .before .before .before .before .lengths-wrong .ensures) (c .before .before .before .before .before .before .before .before .before .if2 .left) (c .before .before .before .before .reset-images .ensures)
+returns-3 c = search (reset-made, needs)
 
 pub rack-reset-spec : {M : Type 1} → statement M
 rack-reset-spec =

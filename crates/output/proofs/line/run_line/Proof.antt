@@ -1,8 +1,5 @@
-use mathlib.Core.Path.{_∙_, ap}
+use Rattle.output.proofs.Ran.{ran-line, ran-images}
 use borrow.Author.Needs.{needs}
-use Rattle.simulator.specs.Run.{eventRun}
-use Rattle.simulator.specs.Answers.{Answered}
-use Rattle.output.specs.Output.{answerLine}
 use Rattle.output.proofs.line.run_line.Statement.{statement}
 use Rattle.output.proofs.line.run_line.Tie as tie
 
@@ -22,13 +19,7 @@ same-length-2 : tie.Need-same-length-2
 same-length-2 c = search needs
 
 returns : tie.Need-returns
-returns c =
-    let l = c .answer-line .ensures in
-    let ran = c .before .before .before .before .before in
-    let got = ran .before .before .before in
-    let e = ran .answer-event .ensures ∙ ap (eventRun _ _ _) (got .event-in .ensures) in
-    let n = got .before .before .before .before .args .at .number in
-    (l .0 ∙ ap (λ (x : Answered). answerLine n (x .answer)) e, l .1, ap (λ (x : Answered). x .after) e)
+returns c = (search (ran-line, needs), search needs, search (ran-images, needs))
 
 pub run-line-spec : {M : Type 1} → statement M
 run-line-spec =

@@ -1,8 +1,5 @@
-use Rattle.overlap.specs.Check.{driven, atValue}
+use Rattle.overlap.specs.Check.{atValue}
 use Rattle.overlap.specs.FirstLaws.{in-one}
-use Rattle.registers.specs.Image.{images}
-use Rattle.rack.specs.Table.{treeOf}
-use Rattle.claims.specs.declared.Space.the-variants.{Configuration}
 use mathlib.Core.Path.{sym, _∙_}
 use borrow.Author.Needs.{needs}
 use Rattle.overlap.proofs.drivers.first_driver.Statement.{statement}
@@ -36,11 +33,7 @@ returns-2 c = rw (c .before .enum-told2 .given .1) (c .agents-drive2 .ensures)
 
 returns-3 : tie.Need-returns-3
 unfolding atValue
-returns-3 c =
-    let a = c .before .before .before .before .before .args in
-    let t = treeOf (a .count) (a .words .now) in
-    let f = driven t (a .host) (images (a .bridges .now) (a .devices .now)) (a .bus) Configuration (a .a) in
-    rw (c .before .enum-told3 .given .1) (c .driven-by .ensures ∙ sym (in-one f (a .bus)))
+returns-3 c = rw (c .before .enum-told3 .given .1) (c .driven-by .ensures ∙ sym (in-one _ _))
 
 pub first-driver-spec : {M : Type 1} → statement M
 first-driver-spec =

@@ -1,29 +1,23 @@
-use Rattle.overlap.specs.Check.{firstIn, driven}
-use Rattle.overlap.specs.FirstLaws.{else-found, else-next, nodes-on, nodes-off, nodes-end}
-use Rattle.registers.specs.Image.{images}
-use Rattle.rack.specs.Table.{treeOf}
-use Rattle.rack.specs.Tree.{nodesFrom, nodesOn}
 use borrow.Author.Needs.{needs}
-use native.Mathlib.Omega.{arith}
-use Prim.Native.Nat.{ℕ, _-_}
-use mathlib.Core.Path.{_≡_, sym, ap, _∙_}
+use Prim.Native.Nat.{_-_}
+use Rattle.rack.specs.Table.{treeOf}
+use Rattle.registers.specs.Image.{images}
+use Rattle.overlap.specs.Check.{driven}
+use Rattle.overlap.specs.FirstLaws.{NodesYet, nodes-yet, nodes-off, nodes-next, nodes-found, nodes-end}
 use Rattle.overlap.proofs.drivers.nodes_drive.Statement.{statement}
 use Rattle.overlap.proofs.drivers.nodes_drive.Tie as tie
 
 abbrev Inv-loop : tie.InvT-loop
-Inv-loop words count bridges devices host bus space a i₀ i =
-    firstIn (driven (treeOf count words) host (images bridges devices) bus space a) (nodesOn (treeOf count words) bus)
-    ≡ firstIn (driven (treeOf count words) host (images bridges devices) bus space a) (nodesFrom (treeOf count words) bus i (count - i))
+Inv-loop table bridges devices bus space a count i₀ i = NodesYet (treeOf table) bus (driven (treeOf table) (images bridges devices) bus space a) count i
 
 abbrev μ-loop : tie.MeasureT-loop
-μ-loop words count bridges devices host bus space a i₀ i = count - i
+μ-loop table bridges devices bus space a count i₀ i = count - i
+
+count-of-requires : tie.Need-count-of-requires Inv-loop μ-loop
+count-of-requires c κs = search needs
 
 loop-holds : tie.Need-loop-holds Inv-loop μ-loop
-loop-holds c =
-    let a = c .before .before .args in
-    let f = driven (treeOf (a .count) (a .words .now)) (a .host) (images (a .bridges .now) (a .devices .now)) (a .bus) (a .space) (a .a) in
-    let e : a .count ≡ a .count - 0 = omega arith in
-    ap (λ (k : ℕ). firstIn f (nodesFrom (treeOf (a .count) (a .words .now)) (a .bus) 0 k)) e
+loop-holds c = search (nodes-yet, needs)
 
 parent-at-requires : tie.Need-parent-at-requires Inv-loop μ-loop
 parent-at-requires c κs = search needs
@@ -35,17 +29,7 @@ is-fault-requires : tie.Need-is-fault-requires Inv-loop μ-loop
 is-fault-requires c κs = search needs
 
 returns : tie.Need-returns Inv-loop μ-loop
-returns c =
-    let at-parent = c .before .before .before .before in
-    let at-loop = at-parent .before .before in
-    let a = at-loop .before .before .before .args in
-    let t = treeOf (a .count) (a .words .now) in
-    let f = driven t (a .host) (images (a .bridges .now) (a .devices .now)) (a .bus) (a .space) (a .a) in
-    else-found {x = f (at-loop .loop .i)} _
-    (at-loop .loop .inv
-    ∙ nodes-on t (a .bus) f (a .count) (at-loop .loop .i) (at-parent .before .loop-test .taken)
-    (sym (at-parent .parent-at .ensures) ∙ c .before .before .before .if1 .taken))
-    (c .before .before .driven-by .ensures) (c .before .is-fault .ensures) (c .if2 .taken)
+returns c = search (nodes-found, needs)
 
 add-i : tie.Need-add-i Inv-loop μ-loop
 add-i c = search needs
@@ -54,17 +38,7 @@ loop-less : tie.Need-loop-less Inv-loop μ-loop
 loop-less c = search needs
 
 loop-again : tie.Need-loop-again Inv-loop μ-loop
-loop-again c =
-    let at-parent = c .before .before .before .before in
-    let at-loop = at-parent .before .before in
-    let a = at-loop .before .before .before .args in
-    let t = treeOf (a .count) (a .words .now) in
-    let f = driven t (a .host) (images (a .bridges .now) (a .devices .now)) (a .bus) (a .space) (a .a) in
-    else-next {x = f (at-loop .loop .i)} _
-    (at-loop .loop .inv
-    ∙ nodes-on t (a .bus) f (a .count) (at-loop .loop .i) (at-parent .before .loop-test .taken)
-    (sym (at-parent .parent-at .ensures) ∙ c .before .before .before .if1 .taken))
-    (c .before .before .driven-by .ensures) (c .before .is-fault .ensures) (c .if2 .left)
+loop-again c = search (nodes-next _ _ _ (c .before .before .before .before .before .before .loop .inv), needs)
 
 add-i-2 : tie.Need-add-i-2 Inv-loop μ-loop
 add-i-2 c = search needs
@@ -73,22 +47,10 @@ loop-less-2 : tie.Need-loop-less-2 Inv-loop μ-loop
 loop-less-2 c = search needs
 
 loop-again-2 : tie.Need-loop-again-2 Inv-loop μ-loop
-loop-again-2 c =
-    let at-loop = c .before .before .before in
-    let a = at-loop .before .before .before .args in
-    let t = treeOf (a .count) (a .words .now) in
-    let f = driven t (a .host) (images (a .bridges .now) (a .devices .now)) (a .bus) (a .space) (a .a) in
-    at-loop .loop .inv
-    ∙ nodes-off t (a .bus) f (a .count) (at-loop .loop .i) (c .before .before .loop-test .taken)
-    (λ e. c .if1 .left (c .before .parent-at .ensures ∙ e))
+loop-again-2 c = search (nodes-off _ _ _ (c .before .before .before .loop .inv), needs)
 
 returns-2 : tie.Need-returns-2 Inv-loop μ-loop
-returns-2 c =
-    let at-loop = c .before in
-    let a = at-loop .before .before .before .args in
-    let t = treeOf (a .count) (a .words .now) in
-    let f = driven t (a .host) (images (a .bridges .now) (a .devices .now)) (a .bus) (a .space) (a .a) in
-    sym (at-loop .loop .inv ∙ nodes-end t (a .bus) f (a .count) (at-loop .loop .i) (c .loop-test .left))
+returns-2 c = search (nodes-end, needs)
 
 pub nodes-drive-spec : {M : Type 1} → statement M
 nodes-drive-spec =
@@ -96,6 +58,7 @@ nodes-drive-spec =
     (tie.spec
     Inv-loop
     μ-loop
+    count-of-requires
     loop-holds
     parent-at-requires
     driven-by-requires

@@ -1,93 +1,72 @@
-use borrow.Author.Needs.{needs}
-use native.Mathlib.Omega.{arith}
-use lib.Seq.{lt-length-set}
-use Prim.Native.Nat.{_*_}
-use Rattle.rack.specs.Table.{nodeAt}
-use Rattle.rack.specs.TreeLaws.{below-le}
 use Rattle.rack.proofs.Grown.{one-more}
+use borrow.Author.Needs.{needs}
 use Rattle.rack.proofs.grow.add_node.Statement.{statement}
 use Rattle.rack.proofs.grow.add_node.Tie as tie
 
-bridges-below-requires : tie.Need-bridges-below-requires
-bridges-below-requires c κs = search needs
-
-sub-devices : tie.Need-sub-devices
-sub-devices c =
-    let a = c .before .before .args in
-    omega (arith, c .bridges-below .ensures, below-le (nodeAt (a .words .now)) (a .count))
+count-of-requires : tie.Need-count-of-requires
+count-of-requires c κs = search needs
 
 is-bridge-requires : tie.Need-is-bridge-requires
 is-bridge-requires c κs = search needs
 
-cast-pick : tie.Need-cast-pick
-cast-pick c =
-    let start = c .before .before .before in
-    omega (arith, c .before .bridges-below .ensures, below-le (nodeAt (start .args .words .now)) (start .args .count), start .pre)
+new-place-requires : tie.Need-new-place-requires
+new-place-requires c κs = search needs
 
-cast-pick-2 : tie.Need-cast-pick-2
-cast-pick-2 c =
-    let start = c .before .before .before in
-    omega (arith, c .before .bridges-below .ensures, below-le (nodeAt (start .args .words .now)) (start .args .count), start .pre)
+new-depth-requires : tie.Need-new-depth-requires
+new-depth-requires c κs = search needs
+
+deepest-requires : tie.Need-deepest-requires
+deepest-requires c κs = search needs
 
 pick-requires : tie.Need-pick-requires
 pick-requires c κs = search needs
 
+greater-requires : tie.Need-greater-requires
+greater-requires c κs = search needs
+
+cast-put-words : tie.Need-cast-put-words
+cast-put-words c = search needs
+
 low-word-requires : tie.Need-low-word-requires
 low-word-requires c κs = search needs
-
-mul-all : tie.Need-mul-all
-mul-all c = search needs
-
-mul-all-2 : tie.Need-mul-all-2
-mul-all-2 c = search needs
-
-slice-write-all : tie.Need-slice-write-all
-slice-write-all c = search needs
 
 high-word-requires : tie.Need-high-word-requires
 high-word-requires c κs = search needs
 
-mul-all-3 : tie.Need-mul-all-3
-mul-all-3 c = search needs
+add-end-word : tie.Need-add-end-word
+add-end-word c = search needs
 
-add-all : tie.Need-add-all
-add-all c = search needs
+end-word-requires : tie.Need-end-word-requires
+end-word-requires c κs = search needs
 
-mul-all-4 : tie.Need-mul-all-4
-mul-all-4 c = search needs
-
-slice-write-all-2 : tie.Need-slice-write-all-2
-slice-write-all-2 c =
-    let at-pick = c .before .before .before in
-    let start = at-pick .before .before .before .before in
-    lt-length-set (start .args .words .now) (2 * start .args .count) (c .before .low-word .result)
-    (omega (arith, c .before .before .all .given .0 .1, start .pre))
+put-words-requires : tie.Need-put-words-requires
+put-words-requires c κs = search needs
 
 returns : tie.Need-returns
 returns c =
-    let at-pick = c .before .before .before in
-    let start = at-pick .before .before .before .before in
-    one-more (start .args .words .now) (start .args .n) (c .before .before .all .given .0 .1) (start .pre)
-    (at-pick .before .before .bridges-below .ensures) (at-pick .before .is-bridge .ensures) (at-pick .pick .ensures)
-    (c .before .low-word .ensures) (c .high-word .ensures)
+    let most = c .before .before .before .before .before in
+    let deep = most .before .before .before .before in
+    let kind = deep .before .before .before .before in
+    one-more _ _ (search needs) (search needs) (kind .before .count-of .ensures) (kind .is-bridge .ensures)
+    (deep .before .before .new-place .ensures) (deep .new-depth .ensures) (most .before .before .deepest .ensures)
+    (most .before .pick .ensures) (most .greater .ensures)
+    (c .before .before .before .low-word .ensures) (c .before .before .high-word .ensures) (c .before .end-word .ensures) (c .put-words .ensures .1)
 
 pub add-node-spec : {M : Type 1} → statement M
 add-node-spec =
     tie.close
     (tie.spec
-    bridges-below-requires
-    sub-devices
+    count-of-requires
     is-bridge-requires
-    cast-pick
-    cast-pick-2
+    new-place-requires
+    new-depth-requires
+    deepest-requires
     pick-requires
+    greater-requires
+    cast-put-words
     low-word-requires
-    mul-all
-    mul-all-2
-    slice-write-all
     high-word-requires
-    mul-all-3
-    add-all
-    mul-all-4
-    slice-write-all-2
+    add-end-word
+    end-word-requires
+    put-words-requires
     returns)

@@ -1,10 +1,16 @@
-use mathlib.Core.Path.{refl}
 use Rattle.rack.proofs.Grown.{none-held}
+use borrow.Author.Needs.{needs}
 use Rattle.rack.proofs.grow.no_table.Statement.{statement}
 use Rattle.rack.proofs.grow.no_table.Tie as tie
 
+array-write-table : tie.Need-array-write-table
+array-write-table c = search needs
+
+array-write-table-2 : tie.Need-array-write-table-2
+array-write-table-2 c = search needs
+
 returns : tie.Need-returns
-returns c = (none-held, refl)
+returns c = none-held (c .args .host)
 
 pub no-table-spec : {M : Type 1} → statement M
-no-table-spec = tie.close (tie.spec returns)
+no-table-spec = tie.close (tie.spec array-write-table array-write-table-2 returns)

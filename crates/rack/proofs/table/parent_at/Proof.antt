@@ -1,30 +1,17 @@
 use Rattle.rack.specs.Table.{nodeAt}
-use borrow.Author.Tests.{lt-ltb, le-ltb}
 use borrow.Author.Needs.{needs}
 use Rattle.rack.proofs.table.parent_at.Statement.{statement}
 use Rattle.rack.proofs.table.parent_at.Tie as tie
 
-mul-result : tie.Need-mul-result
-mul-result c = search needs
-
-mul-result-2 : tie.Need-mul-result-2
-mul-result-2 c = search needs
-
-element-copy-out-result : tie.Need-element-copy-out-result
-element-copy-out-result c = search needs
+low-at-requires : tie.Need-low-at-requires
+low-at-requires c κs = search needs
 
 cast-result : tie.Need-cast-result
 cast-result c = search needs
 
 returns : tie.Need-returns
 unfolding nodeAt
-returns c = simp (lt-ltb _ _ (c .before .if1 .taken))
-
-returns-2 : tie.Need-returns-2
-unfolding nodeAt
-returns-2 c = simp (le-ltb _ _ (c .if1 .left))
+returns c = simp (c .low-at .ensures)
 
 pub parent-at-spec : {M : Type 1} → statement M
-parent-at-spec =
-    tie.close
-    (tie.spec mul-result mul-result-2 element-copy-out-result cast-result returns returns-2)
+parent-at-spec = tie.close (tie.spec low-at-requires cast-result returns)

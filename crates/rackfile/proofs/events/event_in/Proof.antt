@@ -1,5 +1,4 @@
-use Rattle.rackfile.specs.Events.{eventIn}
-use borrow.Author.Tests.{eq-eqb, ne-eqb}
+use Rattle.rackfile.proofs.Records.{write-in, read-in, memory-in, io-in, check-in}
 use borrow.Author.Needs.{needs}
 use Rattle.rackfile.proofs.events.event_in.Statement.{statement}
 use Rattle.rackfile.proofs.events.event_in.Tie as tie
@@ -38,12 +37,10 @@ dword-in-requires : tie.Need-dword-in-requires
 dword-in-requires c κs = search needs
 
 returns : tie.Need-returns
-unfolding eventIn
-returns c = simp (← c .before .before .before .before .before .before .byte-at .ensures, ← c .before .before .before .before .before .byte-at2 .ensures, ← c .before .before .before .before .byte-at3 .ensures, ← c .before .before .before .byte-at4 .ensures, eq-eqb _ _ (c .before .before .if1 .taken), ← c .before .byte-at5 .ensures, ← c .dword-in .ensures)
+returns c = search (write-in, needs)
 
 returns-2 : tie.Need-returns-2
-unfolding eventIn
-returns-2 c = simp (← c .before .before .before .before .before .byte-at .ensures, ← c .before .before .before .before .byte-at2 .ensures, ← c .before .before .before .byte-at3 .ensures, ← c .before .before .byte-at4 .ensures, ne-eqb _ _ (c .before .if1 .left), eq-eqb _ _ (c .if2 .taken))
+returns-2 c = search (read-in, needs)
 
 add-qword-in : tie.Need-add-qword-in
 add-qword-in c = search needs
@@ -52,8 +49,7 @@ qword-in-requires : tie.Need-qword-in-requires
 qword-in-requires c κs = search needs
 
 returns-3 : tie.Need-returns-3
-unfolding eventIn
-returns-3 c = simp (← c .before .before .before .before .before .before .before .byte-at .ensures, ← c .before .before .before .before .before .before .byte-at2 .ensures, ← c .before .before .before .before .before .byte-at3 .ensures, ne-eqb _ _ (c .before .before .before .if1 .left), ne-eqb _ _ (c .before .before .if2 .left), eq-eqb _ _ (c .before .if3 .taken), ← c .qword-in .ensures)
+returns-3 c = search (memory-in, needs)
 
 add-dword-in-2 : tie.Need-add-dword-in-2
 add-dword-in-2 c = search needs
@@ -62,12 +58,10 @@ dword-in-requires-2 : tie.Need-dword-in-requires-2
 dword-in-requires-2 c κs = search needs
 
 returns-4 : tie.Need-returns-4
-unfolding eventIn
-returns-4 c = simp (← c .before .before .before .before .before .before .before .before .byte-at .ensures, ← c .before .before .before .before .before .before .before .byte-at2 .ensures, ← c .before .before .before .before .before .before .byte-at3 .ensures, ne-eqb _ _ (c .before .before .before .before .if1 .left), ne-eqb _ _ (c .before .before .before .if2 .left), ne-eqb _ _ (c .before .before .if3 .left), eq-eqb _ _ (c .before .if4 .taken), ← c .dword-in2 .ensures)
+returns-4 c = search (io-in, needs)
 
 returns-5 : tie.Need-returns-5
-unfolding eventIn
-returns-5 c = simp (← c .before .before .before .before .before .before .before .byte-at .ensures, ← c .before .before .before .before .before .before .byte-at2 .ensures, ← c .before .before .before .before .before .byte-at3 .ensures, ← c .before .before .before .before .byte-at4 .ensures, ne-eqb _ _ (c .before .before .before .if1 .left), ne-eqb _ _ (c .before .before .if2 .left), ne-eqb _ _ (c .before .if3 .left), ne-eqb _ _ (c .if4 .left))
+returns-5 c = search (check-in, needs)
 
 pub event-in-spec : {M : Type 1} → statement M
 event-in-spec =

@@ -2,14 +2,14 @@ use borrow.Author.Needs.{needs}
 use Rattle.rackfile.proofs.events.initiates_at.Statement.{statement}
 use Rattle.rackfile.proofs.events.initiates_at.Tie as tie
 
-node-at-requires : tie.Need-node-at-requires
-node-at-requires c κs = search needs
+count-of-requires : tie.Need-count-of-requires
+count-of-requires c κs = search needs
 
-is-bridge-requires : tie.Need-is-bridge-requires
-is-bridge-requires c κs = search needs
+is-bridge-at-requires : tie.Need-is-bridge-at-requires
+is-bridge-at-requires c κs = search needs
 
 returns : tie.Need-returns
-returns c = simp (← c .before .node-at .ensures, ← c .is-bridge .ensures)
+returns c = simp (c .is-bridge-at .ensures, c .before .count-of .ensures)
 
 pub initiates-at-spec : {M : Type 1} → statement M
-initiates-at-spec = tie.close (tie.spec node-at-requires is-bridge-requires returns)
+initiates-at-spec = tie.close (tie.spec count-of-requires is-bridge-at-requires returns)

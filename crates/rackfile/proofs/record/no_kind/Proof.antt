@@ -2,11 +2,14 @@ use borrow.Author.Needs.{needs}
 use Rattle.rackfile.proofs.record.no_kind.Statement.{statement}
 use Rattle.rackfile.proofs.record.no_kind.Tie as tie
 
-byte-at-requires : tie.Need-byte-at-requires
-byte-at-requires c κs = search needs
+is-rack-requires : tie.Need-is-rack-requires
+is-rack-requires c κs = search needs
+
+is-event-requires : tie.Need-is-event-requires
+is-event-requires c κs = search needs
 
 returns : tie.Need-returns
-returns c = simp (← c .byte-at .ensures)
+returns c = cc
 
 pub no-kind-spec : {M : Type 1} → statement M
-no-kind-spec = tie.close (tie.spec byte-at-requires returns)
+no-kind-spec = tie.close (tie.spec is-rack-requires is-event-requires returns)

@@ -1,5 +1,4 @@
-use Rattle.rackfile.specs.Record.{nodeIn}
-use borrow.Author.Tests.{eq-eqb, ne-eqb}
+use Rattle.rackfile.proofs.Records.{bridge-in, device-in}
 use borrow.Author.Needs.{needs}
 use Rattle.rackfile.proofs.record.node_in.Statement.{statement}
 use Rattle.rackfile.proofs.record.node_in.Tie as tie
@@ -32,8 +31,7 @@ byte-at-requires-3 : tie.Need-byte-at-requires-3
 byte-at-requires-3 c κs = search needs
 
 returns : tie.Need-returns
-unfolding nodeIn
-returns c = simp (← c .before .before .before .before .before .byte-at .ensures, ← c .before .before .before .before .byte-at2 .ensures, ← c .before .before .before .word-in .ensures, ← c .before .before .word-in2 .ensures, ← c .before .byte-at3 .ensures, eq-eqb _ _ (c .if1 .taken))
+returns c = search (bridge-in, needs)
 
 add-region-at : tie.Need-add-region-at
 add-region-at c = search needs
@@ -54,8 +52,7 @@ region-at-requires-3 : tie.Need-region-at-requires-3
 region-at-requires-3 c κs = search needs
 
 returns-2 : tie.Need-returns-2
-unfolding nodeIn
-returns-2 c = simp (← c .before .before .before .before .before .before .before .before .byte-at .ensures, ← c .before .before .before .before .before .before .before .byte-at2 .ensures, ← c .before .before .before .before .before .before .word-in .ensures, ← c .before .before .before .before .before .word-in2 .ensures, ← c .before .before .before .before .byte-at3 .ensures, ne-eqb _ _ (c .before .before .before .if1 .left), ← c .before .before .region-at .ensures, ← c .before .region-at2 .ensures, ← c .region-at3 .ensures)
+returns-2 c = search (device-in, needs)
 
 pub node-in-spec : {M : Type 1} → statement M
 node-in-spec =

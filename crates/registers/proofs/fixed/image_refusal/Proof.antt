@@ -1,5 +1,5 @@
 use borrow.Author.Needs.{needs}
-use Rattle.registers.specs.Fixed.{imageRefusal}
+use Rattle.registers.proofs.Counted.{refused-11, refused-12, refused-none}
 use Rattle.registers.proofs.fixed.image_refusal.Statement.{statement}
 use Rattle.registers.proofs.fixed.image_refusal.Tie as tie
 
@@ -7,19 +7,16 @@ lengths-wrong-requires : tie.Need-lengths-wrong-requires
 lengths-wrong-requires c κs = search needs
 
 returns : tie.Need-returns
-unfolding imageRefusal
-returns c = simp (← c .before .lengths-wrong .ensures, c .if1 .taken)
+returns c = search (refused-11, needs)
 
 fixed-wrong-requires : tie.Need-fixed-wrong-requires
 fixed-wrong-requires c κs = search needs
 
 returns-2 : tie.Need-returns-2
-unfolding imageRefusal
-returns-2 c = simp (← c .before .before .before .lengths-wrong .ensures, c .before .before .if1 .left, ← c .before .fixed-wrong .ensures, c .if2 .taken)
+returns-2 c = search (refused-12, needs)
 
 returns-3 : tie.Need-returns-3
-unfolding imageRefusal
-returns-3 c = simp (← c .before .before .before .lengths-wrong .ensures, c .before .before .if1 .left, ← c .before .fixed-wrong .ensures, c .if2 .left)
+returns-3 c = search (refused-none, needs)
 
 pub image-refusal-spec : {M : Type 1} → statement M
 image-refusal-spec =

@@ -12,7 +12,7 @@ part-wrong-requires : tie.Need-part-wrong-requires
 part-wrong-requires c κs = search needs
 
 returns : tie.Need-returns
-returns c = rw (← c .before .view-of .ensures, ← c .before .before .node-at .ensures) (c .part-wrong .ensures)
+returns c = cc
 
 pub node-wrong-spec : {M : Type 1} → statement M
 node-wrong-spec =

@@ -1,5 +1,4 @@
 use borrow.Author.Needs.{needs}
-use Rattle.header.specs.Register.{setStatus}
 use Rattle.registers.proofs.Slot.{put-back, untouched}
 use Rattle.registers.proofs.image.status_part.Statement.{statement}
 use Rattle.registers.proofs.image.status_part.Tie as tie
@@ -29,11 +28,7 @@ same-length : tie.Need-same-length
 same-length c = search needs
 
 returns : tie.Need-returns
-returns c =
-    let at-call = c .before .before in
-    let at-if1 = at-call .before .before in
-    let a = at-if1 .before .before .args in
-    put-back (a .image .now) (a .place) (λ part. setStatus (a .n) part (a .side) (a .bit)) (at-if1 .if1 .taken) (at-call .set-status .ensures)
+returns c = search (put-back, needs)
 
 returns-2 : tie.Need-returns-2
 returns-2 c = untouched _ _ _ (c .if1 .left)

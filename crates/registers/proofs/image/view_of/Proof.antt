@@ -1,8 +1,10 @@
+use Rattle.registers.proofs.Held.{view-none, view-bridge, view-device}
 use borrow.Author.Needs.{needs}
-use Rattle.rack.specs.Table.{treeOf}
-use Rattle.registers.proofs.Held.{view-none, view-held}
 use Rattle.registers.proofs.image.view_of.Statement.{statement}
 use Rattle.registers.proofs.image.view_of.Tie as tie
+
+count-of-requires : tie.Need-count-of-requires
+count-of-requires c κs = search needs
 
 node-at-requires : tie.Need-node-at-requires
 node-at-requires c κs = search needs
@@ -23,8 +25,7 @@ returns : tie.Need-returns
 returns c =
     let asked = c .before .before in
     let found = asked .before .before in
-    let a = found .before .before .before .before .args in
-    view-held (treeOf (a .count) (a .words .now)) (a .bridges .now) (a .devices .now) (a .i) (found .before .if1 .taken) (found .node-at .ensures)
+    view-bridge _ _ _ _ (found .before .before .count-of .ensures) (found .before .if1 .taken) (found .node-at .ensures)
     (asked .before .place-at .ensures) (asked .is-bridge .ensures) (c .before .if2 .taken) (c .part-of .ensures)
 
 part-of-requires-2 : tie.Need-part-of-requires-2
@@ -34,8 +35,7 @@ returns-2 : tie.Need-returns-2
 returns-2 c =
     let asked = c .before .before in
     let found = asked .before .before in
-    let a = found .before .before .before .before .args in
-    view-held (treeOf (a .count) (a .words .now)) (a .bridges .now) (a .devices .now) (a .i) (found .before .if1 .taken) (found .node-at .ensures)
+    view-device _ _ _ _ (found .before .before .count-of .ensures) (found .before .if1 .taken) (found .node-at .ensures)
     (asked .before .place-at .ensures) (asked .is-bridge .ensures) (c .before .if2 .left) (c .part-of2 .ensures)
 
 sub-result : tie.Need-sub-result
@@ -48,14 +48,13 @@ part-result-end : tie.Need-part-result-end
 part-result-end c = search needs
 
 returns-3 : tie.Need-returns-3
-returns-3 c =
-    let a = c .before .before .before .before .args in
-    view-none (treeOf (a .count) (a .words .now)) (a .bridges .now) (a .devices .now) (a .i) (c .before .if1 .left)
+returns-3 c = search (view-none, needs)
 
 pub view-of-spec : {M : Type 1} → statement M
 view-of-spec =
     tie.close
     (tie.spec
+    count-of-requires
     node-at-requires
     place-at-requires
     cast-place

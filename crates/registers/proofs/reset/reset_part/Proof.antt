@@ -1,9 +1,8 @@
 use mathlib.Core.List.{_++_}
 use mathlib.Core.Path.{_≡_, refl}
 use Prim.Native.Nat.{_-_, _≤_}
-use native.Mathlib.Omega.{arith}
 use borrow.Author.Needs.{needs}
-use lib.ListN.{length, take, length-set}
+use lib.ListN.{length, take}
 use Rattle.registers.specs.Reset.{resetFrom}
 use Rattle.registers.proofs.Filled.{bytes-next, bytes-none}
 use Rattle.registers.proofs.reset.reset_part.Statement.{statement}
@@ -16,7 +15,7 @@ abbrev μ-loop : tie.MeasureT-loop
 μ-loop part₀ n at₀ part at = 64 - at
 
 loop-holds : tie.Need-loop-holds Inv-loop μ-loop
-loop-holds c = (c .before .pre, search needs, refl)
+loop-holds c = (search needs, search needs, refl)
 
 reset-byte-requires : tie.Need-reset-byte-requires Inv-loop μ-loop
 reset-byte-requires c κs = search needs
@@ -31,23 +30,13 @@ loop-less : tie.Need-loop-less Inv-loop μ-loop
 loop-less c = search needs
 
 loop-again : tie.Need-loop-again Inv-loop μ-loop
-loop-again c =
-    let at-loop = c .before .before in
-    let l = at-loop .loop .part in
-    let inv = at-loop .loop .inv in (
-      simp length-set (inv .0),
-      omega (arith, c .before .loop-test .taken),
-      bytes-next (at-loop .before .before .args .n) l (at-loop .loop .at) (inv .0) (c .before .loop-test .taken) (c .reset-byte .ensures) (inv .2),
-    )
+loop-again c = (search needs, search needs, search (bytes-next, needs))
 
 same-length : tie.Need-same-length Inv-loop μ-loop
 same-length c = search needs
 
 returns : tie.Need-returns Inv-loop μ-loop
-returns c =
-    let at-loop = c .before in
-    let inv = at-loop .loop .inv in
-    bytes-none (at-loop .before .before .args .n) (at-loop .loop .part) (at-loop .loop .at) (inv .0) (c .loop-test .left) (inv .2)
+returns c = search (bytes-none, needs)
 
 pub reset-part-spec : {M : Type 1} → statement M
 reset-part-spec =

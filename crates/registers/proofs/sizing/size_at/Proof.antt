@@ -1,9 +1,6 @@
-use mathlib.Core.Path.{sym}
-use Prim.Native.Nat.{_+_, _-_, _*_}
-use borrow.Rule.Slice.PartMut.{put-same}
 use borrow.Author.Needs.{needs}
-use Rattle.registers.proofs.Sized.{size-none}
-use Rattle.registers.proofs.Slot.{inside, outside}
+use Rattle.registers.proofs.Sized.{size-inside, size-outside}
+use Rattle.registers.proofs.Slot.{same-part}
 use Rattle.registers.proofs.sizing.size_at.Statement.{statement}
 use Rattle.registers.proofs.sizing.size_at.Tie as tie
 
@@ -32,18 +29,10 @@ same-length : tie.Need-same-length
 same-length c = search needs
 
 returns : tie.Need-returns
-returns c =
-    let at-call = c .before .before in
-    let at-if1 = at-call .before .before in
-    let a = at-if1 .before .before .args in (
-      rw (← inside (a .image .now) (a .place) (at-if1 .if1 .taken)) (at-call .size-part .ensures .0),
-      rw (at-call .size-part .ensures .1) (put-same (64 * a .place) (64 * a .place + 64 - 64 * a .place) (a .image .now)),
-    )
+returns c = (search (size-inside, needs), search (same-part, needs))
 
 returns-2 : tie.Need-returns-2
-returns-2 c =
-    let a = c .before .before .args in
-    (rw (← outside (a .image .now) (a .place) (c .if1 .left)) (sym (size-none _ _ _)), search needs)
+returns-2 c = (search (size-outside, needs), search needs)
 
 pub size-at-spec : {M : Type 1} → statement M
 size-at-spec =

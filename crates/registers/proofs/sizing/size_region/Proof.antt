@@ -1,11 +1,11 @@
-use mathlib.Core.Path.{refl, sym, ap}
+use mathlib.Core.Path.{refl}
+use Rattle.registers.proofs.Sized.{size-missing, size-bridge, size-device, size-past, same-devices}
 use borrow.Author.Needs.{needs}
-use Rattle.rack.specs.Table.{treeOf}
-use Rattle.registers.specs.Image.{images}
-use Rattle.registers.proofs.Sized.{region-past, size-missing, size-bridge, size-device}
-use Rattle.header.specs.SizingLaws.{kind-none}
 use Rattle.registers.proofs.sizing.size_region.Statement.{statement}
 use Rattle.registers.proofs.sizing.size_region.Tie as tie
+
+count-of-requires : tie.Need-count-of-requires
+count-of-requires c κs = search needs
 
 node-at-requires : tie.Need-node-at-requires
 node-at-requires c κs = search needs
@@ -14,10 +14,7 @@ is-bridge-requires : tie.Need-is-bridge-requires
 is-bridge-requires c κs = search needs
 
 returns : tie.Need-returns
-returns c =
-    let found = c .before .before in
-    let a = found .before .before .before .before .args in
-    (size-bridge (treeOf (a .count) (a .words .now)) (a .bridges .now) (a .devices .now) (a .i) (a .r) (found .before .if1 .taken) (found .node-at .ensures) (c .before .is-bridge .ensures) (c .if2 .taken), refl)
+returns c = (search (size-bridge, needs), refl)
 
 place-at-requires : tie.Need-place-at-requires
 place-at-requires c κs = search needs
@@ -42,33 +39,23 @@ returns-2 c =
     let call = c .before .before in
     let place = call .before .before .before in
     let asked = place .before .before .before in
-    let found = asked .before in
-    let a = found .before .before .before .before .args in (
-      size-device (treeOf (a .count) (a .words .now)) (a .bridges .now) (a .devices .now) (a .i) (a .r) (found .before .if1 .taken) (found .node-at .ensures) (asked .is-bridge .ensures)
-          (place .before .before .if2 .left) (place .place-at .ensures) refl (call .size-at .ensures .0),
-      ap (images (a .bridges .now)) (call .size-at .ensures .1),
+    let found = asked .before in (
+      size-device _ _ _ _ _ (found .before .before .count-of .ensures) (found .before .if1 .taken) (found .node-at .ensures) (asked .is-bridge .ensures)
+          (place .before .before .if2 .left) (place .place-at .ensures) (call .size-at .ensures .0),
+      search (same-devices, needs),
     )
 
 returns-3 : tie.Need-returns-3
-returns-3 c =
-    let asked = c .before .before in
-    let found = asked .before in
-    let a = found .before .before .before .before .args in
-    let none = region-past (a .words .now) (a .i) (a .r) (c .if3 .left) in (
-      size-device (treeOf (a .count) (a .words .now)) (a .bridges .now) (a .devices .now) (a .i) (a .r) (found .before .if1 .taken) (found .node-at .ensures) (asked .is-bridge .ensures)
-          (c .before .if2 .left) refl (rw (found .node-at .ensures, none)) (sym (kind-none _ _ _)),
-      refl,
-    )
+returns-3 c = (search (size-past, needs), refl)
 
 returns-4 : tie.Need-returns-4
-returns-4 c =
-    let a = c .before .before .before .args in
-    (size-missing (treeOf (a .count) (a .words .now)) (a .bridges .now) (a .devices .now) (a .i) (a .r) (c .if1 .left), refl)
+returns-4 c = (search (size-missing, needs), refl)
 
 pub size-region-spec : {M : Type 1} → statement M
 size-region-spec =
     tie.close
     (tie.spec
+    count-of-requires
     node-at-requires
     is-bridge-requires
     returns

@@ -1,11 +1,5 @@
-use mathlib.Core.Path.{ap}
 use Prim.Native.Nat.{_+_}
-use native.Mathlib.Omega.{arith}
-use Rattle.rack.specs.Table.{treeOf}
-use Rattle.registers.specs.Image.{images}
-use Rattle.steps.specs.Ending.{Out, crossingsOf}
-use Rattle.routes.specs.StepLaws.{bus-le}
-use Rattle.routes.proofs.Taken.{step-ends, step-spent, step-on, step-across}
+use Rattle.routes.proofs.Taken.{step-ends, step-spent, step-on, step-across, few-crossed}
 use borrow.Author.Needs.{needs}
 use Prim.Native.Nat.{ℕ, _<_}
 use borrow.Fn.Kinds.{In}
@@ -24,10 +18,10 @@ use Rattle.routes.proofs.route.+bridge_step+bus_step.{statement}
 use Rattle.routes.proofs.route.+bridge_step+bus_step.Tie.{close}
 
 abbrev μ-bridge-step : Measures 3 bridge-step-kinds.ps ℕ
-μ-bridge-step κs a = a .1 .1 .1 .1 .1 .1 .1 .1 .0 + a .1 .1 .1 .1 .1 .1 .1 .1 .0 + 1
+μ-bridge-step κs a = a .1 .1 .1 .1 .1 .1 .0 + a .1 .1 .1 .1 .1 .1 .0 + 1
 
 abbrev μ-bus-step : Measures 3 bus-step-kinds.ps ℕ
-μ-bus-step κs a = a .1 .1 .1 .1 .1 .1 .1 .1 .1 .0 + a .1 .1 .1 .1 .1 .1 .1 .1 .1 .0
+μ-bus-step κs a = a .1 .1 .1 .1 .1 .1 .1 .0 + a .1 .1 .1 .1 .1 .1 .1 .0
 
 abbrev bridge-step-at : ℕ → In 3 bridge-step-kinds.ps
 bridge-step-at t =
@@ -90,7 +84,7 @@ bridge-step-crossed-by-requires : (t : ℕ) → bridge-step-lts.Need-crossed-by-
   crossed-by-reads.Asked,
   crossed-by-reads.Learnt,
 ) (bridge-step-at t) bridge-step.Post
-bridge-step-crossed-by-requires t c κs = let a = c .before .before .before .before .before .before .before .before .before .before .before .before .before .before .before .args in omega (arith, bus-le (treeOf (a .count) (a .words .now)) (a .host) (a .x) (a .left) (images (a .bridges .now) (a .devices .now)) (c .before .before .before .before .before .before .before .before .before .before .before .before .other-bus .result) (a .g) (c .before .before .before .before .before .before .before .before .before .turns-type0 .result), ap (λ (o : Out). crossingsOf (o .ending)) (c .before .before .before .before .before .before .bus-step .ensures))
+bridge-step-crossed-by-requires t c κs = search (few-crossed, needs)
 
 bridge-step-same-length : (t : ℕ) → bridge-step-lts.Need-same-length (
   other-bus-reads.Asked,
@@ -126,7 +120,7 @@ bridge-step-returns : (t : ℕ) → bridge-step-lts.Need-returns (
   crossed-by-reads.Asked,
   crossed-by-reads.Learnt,
 ) (bridge-step-at t) bridge-step.Post
-bridge-step-returns t c = let a = c .before .before .before .before .before .before .before .before .before .before .before .before .before .before .before .before .before .before .before .before .args in step-across (treeOf (a .count) (a .words .now)) (a .host) (a .x) (images (a .bridges .now) (a .devices .now)) (a .bus) (a .g) (a .left) (c .before .before .before .before .before .before .before .before .before .before .before .before .before .before .before .before .before .other-bus .ensures) (c .before .before .before .before .before .before .before .before .before .before .before .before .before .before .turns-type0 .ensures) (c .before .before .before .before .before .before .before .before .before .before .before .bus-step .ensures) (c .before .before .before .before .crossed-by .ensures)
+bridge-step-returns t c = search (step-across, needs)
 
 bus-step-look-on-requires : (t : ℕ) → bus-step-lts.Need-look-on-requires (
   look-on-reads.Asked,
@@ -190,7 +184,7 @@ bus-step-returns : (t : ℕ) → bus-step-lts.Need-returns (
   bridge-step-below t,
   bridge-step.Post,
 ) (bus-step-at t) bus-step.Post
-bus-step-returns t c = let a = c .before .before .before .before .before .before .before .before .before .before .before .before .args in step-ends (treeOf (a .count) (a .words .now)) (a .host) (a .x) (images (a .bridges .now) (a .devices .now)) (a .bus) (a .driver) (a .type0) (a .left) (c .before .before .before .before .before .before .before .look-on .ensures) (c .before .s .given .1)
+bus-step-returns t c = search (step-ends, needs)
 
 bus-step-same-length-3 : (t : ℕ) → bus-step-lts.Need-same-length-3 (
   look-on-reads.Asked,
@@ -214,7 +208,7 @@ bus-step-returns-2 : (t : ℕ) → bus-step-lts.Need-returns-2 (
   bridge-step-below t,
   bridge-step.Post,
 ) (bus-step-at t) bus-step.Post
-bus-step-returns-2 t c = let a = c .before .before .before .before .before .before .before .before .before .before .before .before .before .args in step-spent (treeOf (a .count) (a .words .now)) (a .host) (a .x) (images (a .bridges .now) (a .devices .now)) (a .bus) (a .driver) (a .type0) (a .left) (c .before .before .before .before .before .before .before .before .look-on .ensures) (c .before .before .s2 .given .1) (c .if1 .taken)
+bus-step-returns-2 t c = search (step-spent, needs)
 
 bus-step-same-length-5 : (t : ℕ) → bus-step-lts.Need-same-length-5 (
   look-on-reads.Asked,
@@ -238,7 +232,7 @@ bus-step-returns-3 : (t : ℕ) → bus-step-lts.Need-returns-3 (
   bridge-step-below t,
   bridge-step.Post,
 ) (bus-step-at t) bus-step.Post
-bus-step-returns-3 t c = let a = c .before .before .before .before .before .before .before .before .before .before .before .before .before .before .before .before .before .before .before .before .args in step-on (treeOf (a .count) (a .words .now)) (a .host) (a .x) (images (a .bridges .now) (a .devices .now)) (a .bus) (a .driver) (a .type0) (a .left) (c .before .before .before .before .before .before .before .before .before .before .before .before .before .before .before .look-on .ensures) (c .before .before .before .before .before .before .before .before .before .s2 .given .1) (c .before .before .before .before .before .before .before .if1 .left) (c .before .before .before .before .bridge-step .ensures)
+bus-step-returns-3 t c = search (step-on, needs)
 
 pub +bridge-step+bus-step-spec : {M : Type 1} → statement M
 +bridge-step+bus-step-spec = close μ-bridge-step μ-bus-step (λ t. bridge-step-lts.spec (

@@ -1,3 +1,4 @@
+use Rattle.routes.proofs.Taken.{received-target}
 use borrow.Author.Needs.{needs}
 use Rattle.routes.proofs.route.receive.Statement.{statement}
 use Rattle.routes.proofs.route.receive.Tie as tie
@@ -27,7 +28,7 @@ same-length-2 : tie.Need-same-length-2
 same-length-2 c = search needs
 
 returns-3 : tie.Need-returns-3
-returns-3 c = simp (c .before .before .before .before .before .before .before .enum-told3 .given .1) (c .before .before .before .before .status-node .ensures)
+returns-3 c = search (received-target, needs)
 
 pub receive-spec : {M : Type 1} → statement M
 receive-spec =

@@ -1,5 +1,4 @@
-use Rattle.routes.specs.Route.{access}
-use borrow.Author.Tests.{eq-eqb, ne-eqb}
+use Rattle.routes.proofs.Taken.{access-host, access-driven, access-silent}
 use borrow.Author.Needs.{needs}
 use Rattle.routes.proofs.route.route_access.Statement.{statement}
 use Rattle.routes.proofs.route.route_access.Tie as tie
@@ -14,10 +13,7 @@ same-length-2 : tie.Need-same-length-2
 same-length-2 c = search needs
 
 returns : tie.Need-returns
-unfolding access
-returns c =
-    let s = c .before .before .before .before in
-    simp (eq-eqb _ _ (s .before .before .before .if1 .taken)) (s .route-from .ensures)
+returns c = search (access-host, needs)
 
 byte-of-requires : tie.Need-byte-of-requires
 byte-of-requires c κs = search needs
@@ -32,11 +28,7 @@ same-length-4 : tie.Need-same-length-4
 same-length-4 c = search needs
 
 returns-2 : tie.Need-returns-2
-unfolding access
-returns-2 c =
-    let s = c .before .before .before .before in
-    let f = s .before .before .before .before in
-    simp (ne-eqb _ _ (f .before .before .before .if1 .left), ← f .byte-of .ensures, eq-eqb _ _ (s .before .before .before .if2 .taken)) (s .route-device .ensures)
+returns-2 c = search (access-driven, needs)
 
 same-length-5 : tie.Need-same-length-5
 same-length-5 c = search needs
@@ -45,9 +37,7 @@ same-length-6 : tie.Need-same-length-6
 same-length-6 c = search needs
 
 returns-3 : tie.Need-returns-3
-unfolding access
-returns-3 c =
-    simp (ne-eqb _ _ (c .before .before .before .before .if1 .left), ← c .before .byte-of .ensures, ne-eqb _ _ (c .if2 .left))
+returns-3 c = search (access-silent, needs)
 
 pub route-access-spec : {M : Type 1} → statement M
 route-access-spec =

@@ -14,7 +14,7 @@ same-length-2 c = search needs
 
 returns : tie.Need-returns
 unfolding configure
-returns c = c .before .before .before .before .route-from .ensures
+returns c = search needs
 
 pub route-configuration-spec : {M : Type 1} → statement M
 route-configuration-spec =

@@ -1,6 +1,4 @@
 use Rattle.routes.proofs.Taken.{device-driven}
-use Rattle.registers.specs.Image.{images}
-use Rattle.rack.specs.Table.{treeOf}
 use borrow.Author.Needs.{needs}
 use Rattle.routes.proofs.route.route_device.Statement.{statement}
 use Rattle.routes.proofs.route.route_device.Tie as tie
@@ -21,13 +19,7 @@ same-length-2 : tie.Need-same-length-2
 same-length-2 c = search needs
 
 returns : tie.Need-returns
-returns c =
-    let s = c .before .before .before .before in
-    let f = s .before .before .before .before .before .before .before in
-    let p = f .before .before .before in
-    let a = p .before .before .before .args in
-    device-driven (treeOf (a .count) (a .words .now)) (a .host) (a .x) (images (a .bridges .now) (a .devices .now)) (a .i)
-    (p .parent-at .ensures) (f .route-from .ensures) (s .return-to .ensures)
+returns c = search (device-driven, needs)
 
 pub route-device-spec : {M : Type 1} → statement M
 route-device-spec =

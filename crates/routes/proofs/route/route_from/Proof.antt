@@ -1,8 +1,4 @@
-use Rattle.routes.specs.Route.{busStep}
-use Rattle.registers.specs.Image.{images}
-use Rattle.rack.specs.Table.{treeOf}
-use Prim.Native.Nat.{ℕ, _+_}
-use mathlib.Core.Path.{ap, _∙_}
+use Rattle.routes.proofs.Taken.{from-possible}
 use borrow.Author.Needs.{needs}
 use Rattle.routes.proofs.route.route_from.Statement.{statement}
 use Rattle.routes.proofs.route.route_from.Tie as tie
@@ -20,13 +16,7 @@ same-length-2 : tie.Need-same-length-2
 same-length-2 c = search needs
 
 returns : tie.Need-returns
-returns c =
-    let s = c .before .before .before .before in
-    let p = s .before .before .before in
-    let a = p .before .before .before .args in
-    s .bus-step .ensures
-    ∙ ap (λ (k : ℕ). busStep (k + k + 1) (treeOf (a .count) (a .words .now)) (a .host) (a .x) (images (a .bridges .now) (a .devices .now)) (a .bus) (a .driver) (a .type0))
-    (p .possible-from .ensures .0)
+returns c = search (from-possible, needs)
 
 pub route-from-spec : {M : Type 1} → statement M
 route-from-spec =

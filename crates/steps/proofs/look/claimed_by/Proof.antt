@@ -1,4 +1,4 @@
-use Rattle.steps.specs.Look.{claimed}
+use Rattle.steps.proofs.Seen.{claimed-none, claimed-one, claimed-two}
 use borrow.Author.Needs.{needs}
 use Rattle.steps.proofs.look.claimed_by.Statement.{statement}
 use Rattle.steps.proofs.look.claimed_by.Tie as tie
@@ -25,10 +25,7 @@ same-length-2 : tie.Need-same-length-2
 same-length-2 c = search needs
 
 returns : tie.Need-returns
-unfolding claimed
-returns c =
-    let f = c .before .before .before .before in
-    rw (f .before .before .before .enum-told .given .1, ← f .unclaimed-on .ensures)
+returns c = search (claimed-none, needs)
 
 same-length-3 : tie.Need-same-length-3
 same-length-3 c = search needs
@@ -37,12 +34,10 @@ same-length-4 : tie.Need-same-length-4
 same-length-4 c = search needs
 
 returns-2 : tie.Need-returns-2
-unfolding claimed
-returns-2 c = rw (c .before .before .before .before .c .given .1, ← c .owned-by .ensures)
+returns-2 c = search (claimed-one, needs)
 
 returns-3 : tie.Need-returns-3
-unfolding claimed
-returns-3 c = rw (c .before .c2 .given .1)
+returns-3 c = search (claimed-two, needs)
 
 pub claimed-by-spec : {M : Type 1} → statement M
 claimed-by-spec =

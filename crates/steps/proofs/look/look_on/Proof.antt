@@ -1,4 +1,4 @@
-use Rattle.steps.specs.Look.{look}
+use Rattle.steps.proofs.Seen.{look-direct, look-claimed}
 use borrow.Author.Needs.{needs}
 use Rattle.steps.proofs.look.look_on.Statement.{statement}
 use Rattle.steps.proofs.look.look_on.Tie as tie
@@ -13,10 +13,7 @@ same-length-2 : tie.Need-same-length-2
 same-length-2 c = search needs
 
 returns : tie.Need-returns
-unfolding look
-returns c =
-    let call = c .before .before .before .before in
-    simp (call .before .before .before .if1 .taken, ← call .direct-on .ensures)
+returns c = search (look-direct, needs)
 
 claimants-of-requires : tie.Need-claimants-of-requires
 claimants-of-requires c κs = search needs
@@ -31,11 +28,7 @@ same-length-4 : tie.Need-same-length-4
 same-length-4 c = search needs
 
 returns-2 : tie.Need-returns-2
-unfolding look
-returns-2 c =
-    let call = c .before .before .before .before in
-    let asked = call .before .before .before in
-    simp (asked .before .before .before .if1 .left, ← asked .claimants-of .ensures, ← call .claimed-by .ensures)
+returns-2 c = search (look-claimed, needs)
 
 pub look-on-spec : {M : Type 1} → statement M
 look-on-spec =

@@ -1,12 +1,10 @@
-use Rattle.steps.specs.Look.{masterAbort}
-use borrow.Author.Tests.{eq-eqb, ne-eqb}
+use Rattle.steps.proofs.Seen.{abort-host, abort-other}
 use borrow.Author.Needs.{needs}
 use Rattle.steps.proofs.look.master_abort.Statement.{statement}
 use Rattle.steps.proofs.look.master_abort.Tie as tie
 
 returns : tie.Need-returns
-unfolding masterAbort
-returns c = simp (eq-eqb _ _ (c .if1 .taken))
+returns c = search (abort-host, needs)
 
 side-on-requires : tie.Need-side-on-requires
 side-on-requires c κs = search needs
@@ -21,10 +19,7 @@ same-length-2 : tie.Need-same-length-2
 same-length-2 c = search needs
 
 returns-2 : tie.Need-returns-2
-unfolding masterAbort
-returns-2 c =
-    let call = c .before .before .before .before in
-    simp (ne-eqb _ _ (call .before .before .before .before .if1 .left), ← call .before .side-on .ensures, call .status-node .ensures)
+returns-2 c = search (abort-other, needs)
 
 pub master-abort-spec : {M : Type 1} → statement M
 master-abort-spec =

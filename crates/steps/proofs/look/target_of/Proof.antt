@@ -1,41 +1,32 @@
-use borrow.Author.Tests.{ne-eqb}
+use mathlib.Core.Path.{refl}
+use Prim.Native.Nat.{_-_}
 use borrow.Author.Needs.{needs}
-use mathlib.Core.Path.{_≡_, sym, _∙_}
-use Prim.Native.Nat.{_-_, _/_}
 use Rattle.rack.specs.Table.{treeOf}
-use Rattle.claims.specs.Claimants.{nextFrom}
-use Rattle.claims.specs.ClaimantLaws.{next-found, next-next, next-none}
-use Rattle.steps.specs.Look.{target}
-use Rattle.steps.proofs.Sits.{sits, target-first}
+use Rattle.claims.specs.ClaimantLaws.{NextYet}
+use Rattle.steps.proofs.Sits.{sits, sits-off, sits-next, sits-found, sits-none}
 use Rattle.steps.proofs.look.target_of.Statement.{statement}
 use Rattle.steps.proofs.look.target_of.Tie as tie
 
 abbrev Inv-loop : tie.InvT-loop
-Inv-loop words count bus device number i₀ i =
-    target (treeOf count words) bus device ≡ nextFrom (sits words bus number) i (count - i)
+Inv-loop table bus device number count i₀ i = NextYet (sits (treeOf table) bus number) 0 count i
 
 abbrev μ-loop : tie.MeasureT-loop
-μ-loop words count bus device number i₀ i = count - i
+μ-loop table bus device number count i₀ i = count - i
 
 returns : tie.Need-returns Inv-loop μ-loop
-unfolding target
-returns c = simp (ne-eqb _ _ (c .if1 .taken))
+returns c = search (sits-off, needs)
+
+count-of-requires : tie.Need-count-of-requires Inv-loop μ-loop
+count-of-requires c κs = search needs
 
 loop-holds : tie.Need-loop-holds Inv-loop μ-loop
-loop-holds c =
-    let a = c .before .args in
-    target-first (a .count) (a .words .now) (a .bus) (a .device) (c .if1 .left)
+loop-holds c = refl
 
 sits-at-requires : tie.Need-sits-at-requires Inv-loop μ-loop
 sits-at-requires c κs = search needs
 
 returns-2 : tie.Need-returns-2 Inv-loop μ-loop
-returns-2 c =
-    let at-loop = c .before .before .before in
-    let a = at-loop .before .before .args in
-    let f = sits (a .words .now) (a .bus) (a .device / 8) in
-    sym (at-loop .loop .inv ∙ next-found f (at-loop .loop .i) (a .count) (c .before .before .loop-test .taken)
-    (sym (c .before .sits-at .ensures) ∙ c .if2 .taken))
+returns-2 c = search (sits-found, needs)
 
 add-i : tie.Need-add-i Inv-loop μ-loop
 add-i c = search needs
@@ -44,19 +35,10 @@ loop-less : tie.Need-loop-less Inv-loop μ-loop
 loop-less c = search needs
 
 loop-again : tie.Need-loop-again Inv-loop μ-loop
-loop-again c =
-    let at-loop = c .before .before .before in
-    let a = at-loop .before .before .args in
-    let f = sits (a .words .now) (a .bus) (a .device / 8) in
-    at-loop .loop .inv ∙ next-next f (at-loop .loop .i) (a .count) (c .before .before .loop-test .taken)
-    (sym (c .before .sits-at .ensures) ∙ c .if2 .left)
+loop-again c = search (sits-next, needs)
 
 returns-3 : tie.Need-returns-3 Inv-loop μ-loop
-returns-3 c =
-    let at-loop = c .before in
-    let a = at-loop .before .before .args in
-    let f = sits (a .words .now) (a .bus) (a .device / 8) in
-    sym (at-loop .loop .inv ∙ next-none f (at-loop .loop .i) (a .count) (c .loop-test .left))
+returns-3 c = search (sits-none, needs)
 
 pub target-of-spec : {M : Type 1} → statement M
 target-of-spec =
@@ -65,6 +47,7 @@ target-of-spec =
     Inv-loop
     μ-loop
     returns
+    count-of-requires
     loop-holds
     sits-at-requires
     returns-2

@@ -1,4 +1,4 @@
-use Rattle.steps.specs.Look.{unclaimed}
+use Rattle.steps.proofs.Seen.{abort-seen}
 use borrow.Author.Needs.{needs}
 use Rattle.steps.proofs.look.unclaimed_on.Statement.{statement}
 use Rattle.steps.proofs.look.unclaimed_on.Tie as tie
@@ -13,8 +13,7 @@ same-length-2 : tie.Need-same-length-2
 same-length-2 c = search needs
 
 returns : tie.Need-returns
-unfolding unclaimed
-returns c = simp (← c .before .before .before .before .master-abort .ensures)
+returns c = search (abort-seen, needs)
 
 pub unclaimed-on-spec : {M : Type 1} → statement M
 unclaimed-on-spec = tie.close (tie.spec master-abort-requires same-length same-length-2 returns)

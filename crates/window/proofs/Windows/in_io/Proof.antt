@@ -9,7 +9,7 @@ isa-cut-requires : tie.Need-isa-cut-requires
 isa-cut-requires c κs = search needs
 
 returns : tie.Need-returns
-returns c = rw (c .isa-cut .ensures, c .before .within-range .ensures)
+returns c = cc
 
 pub in-io-spec : {M : Type 1} → statement M
 in-io-spec = tie.close (tie.spec within-range-requires isa-cut-requires returns)

@@ -11,7 +11,7 @@ in-vga-io-requires c κs = search needs
 
 returns : tie.Need-returns
 unfolding insideIo
-returns c = rw (c .in-vga-io .ensures, c .before .in-io .ensures)
+returns c = cc
 
 pub inside-io-spec : {M : Type 1} → statement M
 inside-io-spec = tie.close (tie.spec in-io-requires in-vga-io-requires returns)

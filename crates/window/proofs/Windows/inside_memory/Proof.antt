@@ -14,7 +14,7 @@ in-vga-memory-requires c κs = search needs
 
 returns : tie.Need-returns
 unfolding insideMemory
-returns c = rw (c .in-vga-memory .ensures, c .before .in-prefetchable .ensures, c .before .before .in-memory .ensures)
+returns c = cc
 
 pub inside-memory-spec : {M : Type 1} → statement M
 inside-memory-spec =

@@ -11,7 +11,7 @@ cut-low-requires c κs = search needs
 
 returns : tie.Need-returns
 unfolding ioUntil
-returns c = rw (c .cut-low .ensures, c .before .cut-range .ensures)
+returns c = cc
 
 pub io-until-spec : {M : Type 1} → statement M
 io-until-spec = tie.close (tie.spec cut-range-requires cut-low-requires returns)

@@ -14,7 +14,7 @@ cut-range-requires-3 c κs = search needs
 
 returns : tie.Need-returns
 unfolding memoryUntil
-returns c = rw (c .cut-range3 .ensures, c .before .cut-range2 .ensures, c .before .before .cut-range .ensures)
+returns c = cc
 
 pub memory-until-spec : {M : Type 1} → statement M
 memory-until-spec =

@@ -1,5 +1,6 @@
-use borrow.Author.Tests.{le-leb, lt-leb}
+use borrow.Author.Tests.{le-leb}
 use borrow.Author.Needs.{needs}
+use Rattle.window.proofs.Decoded.{low-is}
 use Rattle.window.specs.Cut.{cutLow}
 use Rattle.window.proofs.cut.cut_low.Statement.{statement}
 use Rattle.window.proofs.cut.cut_low.Tie as tie
@@ -48,8 +49,7 @@ cut-if-requires-6 : tie.Need-cut-if-requires-6
 cut-if-requires-6 c κs = search needs
 
 returns-2 : tie.Need-returns-2
-unfolding cutLow
-returns-2 c = simp (lt-leb _ _ (c .before .before .before .before .before .before .if1 .left), c .cut-if6 .ensures, c .before .cut-if5 .ensures, c .before .before .cut-if4 .ensures, c .before .before .before .cut-if3 .ensures, c .before .before .before .before .cut-if2 .ensures, c .before .before .before .before .before .cut-if .ensures)
+returns-2 c = search (low-is, needs)
 
 pub cut-low-spec : {M : Type 1} → statement M
 cut-low-spec =

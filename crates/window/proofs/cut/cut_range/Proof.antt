@@ -9,7 +9,7 @@ cut-past-requires : tie.Need-cut-past-requires
 cut-past-requires c κs = search needs
 
 returns : tie.Need-returns
-returns c = rw (c .cut-past .ensures, c .before .cut-at .ensures)
+returns c = cc
 
 pub cut-range-spec : {M : Type 1} → statement M
 cut-range-spec = tie.close (tie.spec cut-at-requires cut-past-requires returns)

@@ -1,4 +1,5 @@
 use borrow.Author.Needs.{needs}
+use Rattle.window.proofs.Decoded.{io-is}
 use Rattle.window.proofs.decode.io_of.Statement.{statement}
 use Rattle.window.proofs.decode.io_of.Tie as tie
 
@@ -24,7 +25,7 @@ window-12-requires : tie.Need-window-12-requires
 window-12-requires c κs = search needs
 
 returns : tie.Need-returns
-returns c = rw (c .window-12 .ensures, c .before .io-granule2 .ensures .0, c .before .before .word-at2 .ensures, c .before .before .before .byte-at2 .ensures, c .before .before .before .before .io-granule .ensures .0, c .before .before .before .before .before .word-at .ensures, c .before .before .before .before .before .before .byte-at .ensures)
+returns c = search (io-is, needs)
 
 pub io-of-spec : {M : Type 1} → statement M
 io-of-spec =

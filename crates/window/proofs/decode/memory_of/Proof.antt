@@ -1,4 +1,5 @@
 use borrow.Author.Needs.{needs}
+use Rattle.window.proofs.Decoded.{memory-is}
 use Rattle.window.proofs.decode.memory_of.Statement.{statement}
 use Rattle.window.proofs.decode.memory_of.Tie as tie
 
@@ -18,7 +19,7 @@ window-20-requires : tie.Need-window-20-requires
 window-20-requires c κs = search needs
 
 returns : tie.Need-returns
-returns c = rw (c .window-20 .ensures, c .before .word-at2 .ensures, c .before .before .word-at .ensures)
+returns c = search (memory-is, needs)
 
 pub memory-of-spec : {M : Type 1} → statement M
 memory-of-spec =

@@ -1,5 +1,5 @@
 use borrow.Author.Needs.{needs}
-use Rattle.window.specs.Window.{windowsOf}
+use Rattle.window.proofs.Decoded.{windows-is}
 use Rattle.window.proofs.decode.windows_of.Statement.{statement}
 use Rattle.window.proofs.decode.windows_of.Tie as tie
 
@@ -16,8 +16,7 @@ io-of-requires : tie.Need-io-of-requires
 io-of-requires c κs = search needs
 
 returns : tie.Need-returns
-unfolding windowsOf
-returns c = rw (c .io-of .ensures, c .before .prefetchable-of .ensures, c .before .before .memory-of .ensures, c .before .before .before .byte-at .ensures)
+returns c = search (windows-is, needs)
 
 pub windows-of-spec : {M : Type 1} → statement M
 windows-of-spec =

@@ -1,7 +1,5 @@
-use lib.Dec.{eqb, ltb}
-use borrow.Author.Tests.{leb-false}
 use borrow.Author.Needs.{needs}
-use Rattle.rack.specs.Bools.{neither}
+use Rattle.window.proofs.Decoded.{exponent-below, area-is}
 use Rattle.window.specs.Area.{areaOf}
 use Rattle.window.proofs.region.area_of.Statement.{statement}
 use Rattle.window.proofs.region.area_of.Tie as tie
@@ -20,13 +18,10 @@ region-value-requires : tie.Need-region-value-requires
 region-value-requires c κs = search needs
 
 granule-of-requires : tie.Need-granule-of-requires
-granule-of-requires c κs =
-    let start = c .before .before .before .args in
-    leb-false 32 (start .e) (neither (eqb (start .kind) 0) (ltb 31 (start .e)) (c .before .if1 .left) .1)
+granule-of-requires c κs = search (exponent-below, needs)
 
 returns-2 : tie.Need-returns-2
-unfolding areaOf
-returns-2 c = rw (c .before .before .if1 .left, c .granule-of .ensures, c .before .region-value .ensures)
+returns-2 c = search (area-is, needs)
 
 pub area-of-spec : {M : Type 1} → statement M
 area-of-spec =

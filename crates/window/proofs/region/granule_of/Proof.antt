@@ -9,11 +9,11 @@ use Rattle.window.proofs.region.granule_of.Tie as tie
 size-of-requires : tie.Need-size-of-requires
 size-of-requires c κs = search needs
 
-div-first : tie.Need-div-first
-div-first c = rw (c .size-of .ensures) (pow-pos _)
+shr-first : tie.Need-shr-first
+shr-first c = search needs
 
 mul-first : tie.Need-mul-first
-mul-first c = record { fits = lt-of-le-of-lt (div-mul-le-self _ _) (c .before .fits .value .fits) }
+mul-first c = rw (c .size-of .ensures) (record { fits = lt-of-le-of-lt (div-mul-le-self _ _) (c .before .fits .value .fits) })
 
 sub-t5 : tie.Need-sub-t5
 sub-t5 c = rw (c .size-of .ensures) (pow-pos _)
@@ -25,4 +25,4 @@ returns : tie.Need-returns
 returns c = rw (c .size-of .ensures)
 
 pub granule-of-spec : {M : Type 1} → statement M
-granule-of-spec = tie.close (tie.spec size-of-requires div-first mul-first sub-t5 add-t6 returns)
+granule-of-spec = tie.close (tie.spec size-of-requires shr-first mul-first sub-t5 add-t6 returns)

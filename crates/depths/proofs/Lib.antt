@@ -1,2 +1,0 @@
--- What the proof of greatest_depth uses.
-mod Known

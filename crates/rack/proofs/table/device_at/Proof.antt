@@ -1,0 +1,17 @@
+use Rattle.rack.specs.Table.{nodeAt}
+use borrow.Author.Needs.{needs}
+use Rattle.rack.proofs.table.device_at.Statement.{statement}
+use Rattle.rack.proofs.table.device_at.Tie as tie
+
+low-at-requires : tie.Need-low-at-requires
+low-at-requires c κs = search needs
+
+cast-result : tie.Need-cast-result
+cast-result c = search needs
+
+returns : tie.Need-returns
+unfolding nodeAt
+returns c = simp (c .low-at .ensures)
+
+pub device-at-spec : {M : Type 1} → statement M
+device-at-spec = tie.close (tie.spec low-at-requires cast-result returns)
