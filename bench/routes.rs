@@ -6,7 +6,7 @@ use table::{best, u16_at, u32_at, Rack};
 extern "C" {
     fn bench_route(
         table: *const u64, bridges: *mut u8, bridges_len: usize, devices: *mut u8, devices_len: usize,
-        initiator: u8, address: u64, rounds: u16,
+        initiator: u8, address: u64,
     ) -> u64;
 }
 
@@ -98,8 +98,10 @@ fn main() {
         let plain = Plain(r);
         let address = std::hint::black_box(0x8000_0010);
         let (slow, a) = best(|| (0..rounds).fold(0, |_, _| std::hint::black_box(&plain).bus(255, 255, address)));
-        let (proved, c) = best(|| unsafe {
-            bench_route(table.as_ptr(), bridges.as_mut_ptr(), 2048, devices.as_mut_ptr(), 4096, 255, address, rounds)
+        let (proved, c) = best(|| {
+            (0..rounds).fold(0, |_, _| unsafe {
+                bench_route(table.as_ptr(), bridges.as_mut_ptr(), 2048, devices.as_mut_ptr(), 4096, 255, address)
+            })
         });
         assert_eq!(a, c, "the two answers differ over {deep} bridges");
         let ns = 1e9 / rounds as f64;

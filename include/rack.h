@@ -5,7 +5,10 @@
  *
  * Every call returns 0 or the number of a refusal. A refused call leaves both images as they were and `answer` all 0. Nothing is asked
  * of the caller but that each pointer is good for its count of bytes (any pointer that is not null where the count is 0), that `answer`
- * has room for eight numbers, and that what a call writes overlaps nothing else that it is given. No call keeps a pointer.
+ * has room for eight numbers, and that what a call writes overlaps nothing else that it is given.
+ *
+ * No call keeps a pointer or any state. All of them may run side by side in threads, as long as nobody else reads or writes meanwhile
+ * what one of them writes: `answer`, and both images in rack_run and rack_reset.
  */
 #ifndef MUZGANTE_RACK_H
 #define MUZGANTE_RACK_H
@@ -17,57 +20,132 @@
 extern "C" {
 #endif
 
+/* Goes up where a prototype or a number below changes. A new name for a new number leaves it as it is. */
+#define RACK_VERSION 1
+
+/* Limits. */
+enum {
+    RACK_MOST_BYTES = 65536, /* of a rack, and of a rack file */
+    RACK_MOST_BRIDGES = 32,
+    RACK_MOST_DEVICES = 64,
+    RACK_MOST_NODES = 96,
+    RACK_NODE_BYTES = 64,   /* of a node's registers in its image */
+    RACK_NODE_WINDOWS = 3,  /* windows of a bridge, regions of a device */
+    RACK_ANSWER_NUMBERS = 8
+};
+
+/* A node is its number, from 0 as the records come; this one stands for the host, and as a parent or holder for the root bus. */
+enum { RACK_NODE_HOST = 255 };
+
+/* A record is a byte of its kind and then its body: first the rack's, then events. */
+enum {
+    RACK_KIND_HOST = 1,
+    RACK_KIND_BRIDGE = 2,
+    RACK_KIND_DEVICE = 3,
+    RACK_KIND_CONFIGURATION_WRITE = 4,
+    RACK_KIND_CONFIGURATION_READ = 5,
+    RACK_KIND_MEMORY = 6,
+    RACK_KIND_IO = 7,
+    RACK_KIND_CHECK = 8
+};
+
+/* The bytes of each kind's body. */
+enum {
+    RACK_BODY_HOST = 16,               /* first and last address of host memory, 8 each */
+    RACK_BODY_BRIDGE = 6,              /* parent, device number, vendor ID (2), device ID (2) */
+    RACK_BODY_DEVICE = 12,             /* the same six, then three regions of kind and exponent */
+    RACK_BODY_CONFIGURATION_WRITE = 8, /* bus, device times 8 plus function, register, byte enables, data (4) */
+    RACK_BODY_CONFIGURATION_READ = 3,  /* bus, device times 8 plus function, register */
+    RACK_BODY_MEMORY = 10,             /* initiator, 0 read or 1 write, address (8) */
+    RACK_BODY_IO = 6,                  /* initiator, 0 read or 1 write, address (4) */
+    RACK_BODY_CHECK = 0
+};
+
 /* Refusals, in the order in which they are looked for. */
 enum {
-    RACK_TOO_LONG = 1,       /* more than 65,536 bytes of rack */
-    RACK_NO_KIND = 2,        /* a kind that is not 1 to 3 in the rack, or not 4 to 8 in the event, or no event byte */
-    RACK_CUT_SHORT = 3,      /* a record cut short; an event of another length than its own */
-    RACK_HOST = 4,           /* no record, a first one that is no host, or a second host */
-    RACK_AFTER_EVENT = 5,    /* files alone: a rack record behind an event */
-    RACK_TOO_MANY = 6,       /* a 33rd bridge or a 65th device */
-    RACK_PARENT = 7,         /* a parent that is neither 255 nor an earlier bridge */
-    RACK_DEVICE = 8,         /* a device number above 15 */
-    RACK_DEVICE_TAKEN = 9,   /* a device number that is taken on its bus */
-    RACK_REGION = 10,        /* a region's kind or exponent out of range */
-    RACK_IMAGE_LENGTH = 11,  /* an image that is not 64 times its node count long */
-    RACK_FIXED_BIT = 12,     /* a fixed bit that differs from its reset value */
-    RACK_FIELD = 13          /* a field of the event out of range, or a node or window that is missing */
+    RACK_REFUSED_TOO_LONG = 1,      /* more than 65,536 bytes of rack */
+    RACK_REFUSED_KIND = 2,          /* a kind that is not 1 to 3 in the rack, or not 4 to 8 in the event, or no event byte */
+    RACK_REFUSED_CUT_SHORT = 3,     /* a record cut short; an event of another length than its own */
+    RACK_REFUSED_HOST = 4,          /* no record, a first one that is no host, or a second host */
+    RACK_REFUSED_AFTER_EVENT = 5,   /* files alone: a rack record after an event */
+    RACK_REFUSED_TOO_MANY = 6,      /* a 33rd bridge or a 65th device */
+    RACK_REFUSED_PARENT = 7,        /* a parent that is neither 255 nor an earlier bridge */
+    RACK_REFUSED_DEVICE = 8,        /* a device number above 15 */
+    RACK_REFUSED_DEVICE_TAKEN = 9,  /* a device number that is taken on its bus */
+    RACK_REFUSED_REGION = 10,       /* a region's kind or exponent out of range */
+    RACK_REFUSED_IMAGE_LENGTH = 11, /* an image that is not 64 times its node count long */
+    RACK_REFUSED_FIXED_BIT = 12,    /* a fixed bit that differs from its reset value */
+    RACK_REFUSED_FIELD = 13         /* a field of the event out of range, or a node or window that is missing */
 };
 
-/* answer[0] says how an event ended; what answer[1] and the following hold then. The rest is 0. A node is its number, 255 the host; a
- * holder is the node whose bus it is. */
+/* answer[0] says how an event ended; the comment says what answer[1] and the following hold then. The rest is 0. A holder is the node
+ * whose bus it is. */
 enum {
-    RACK_DATA = 1,      /* crossings, the dword that was read */
-    RACK_STORED = 2,    /* crossings */
-    RACK_OWNER = 3,     /* crossings, node, region, offset in the region */
-    RACK_AT_HOST = 4,   /* crossings, offset from the host's first address */
-    RACK_UNCLAIMED = 5, /* crossings, holder, one of RACK_ABORT, RACK_DONE, RACK_TARGET_ABORT */
-    RACK_CLASH = 6,     /* crossings, holder, the first two claimants */
-    RACK_SILENT = 7,    /* nothing: the initiator may not drive its bus */
-    RACK_PASS = 8,      /* nothing: no two agents claim one address */
-    RACK_FAULT = 9      /* holder, one of RACK_MEMORY, RACK_IO, RACK_CONFIGURATION, the address or bus number, driver, two claimants */
+    RACK_ENDED_DATA = 1,      /* crossings, the dword that was read */
+    RACK_ENDED_STORED = 2,    /* crossings */
+    RACK_ENDED_OWNER = 3,     /* crossings, node, region, offset in the region */
+    RACK_ENDED_HOST = 4,      /* crossings, offset from the host's first address */
+    RACK_ENDED_UNCLAIMED = 5, /* crossings, holder, one of RACK_OUTCOME_.. */
+    RACK_ENDED_CLASH = 6,     /* crossings, holder, the first two claimants */
+    RACK_ENDED_SILENT = 7,    /* nothing: the initiator may not drive its bus */
+    RACK_ENDED_PASS = 8,      /* nothing: no two agents claim one address */
+    RACK_ENDED_FAULT = 9      /* holder, one of RACK_SPACE_.., the address or bus number, driver, the first two claimants */
 };
 
-enum { RACK_ABORT = 0, RACK_DONE = 1, RACK_TARGET_ABORT = 2 };
-enum { RACK_MEMORY = 0, RACK_IO = 1, RACK_CONFIGURATION = 2 };
-enum { RACK_HOST_NODE = 255, RACK_NODE_BYTES = 64, RACK_ANSWER_NUMBERS = 8 };
+/* What became of an access that nobody claimed. */
+enum {
+    RACK_OUTCOME_ABORT = 0,       /* master abort: it had crossed no bridge */
+    RACK_OUTCOME_DONE = 1,        /* done all the same by the last bridge */
+    RACK_OUTCOME_TARGET_ABORT = 2 /* target abort by the last bridge */
+};
+
+/* Where the check found a fault. */
+enum { RACK_SPACE_MEMORY = 0, RACK_SPACE_IO = 1, RACK_SPACE_CONFIGURATION = 2 };
+
+/* The windows of a bridge for rack_window. A device's regions have their own numbers, 0 to 2. */
+enum { RACK_WINDOW_MEMORY = 0, RACK_WINDOW_PREFETCHABLE = 1, RACK_WINDOW_IO = 2 };
 
 /* One event (a record of kind 4 to 8) on the rack: how it ends, and both images as it leaves them. */
 uint8_t rack_run(const uint8_t *rack, size_t rack_count, const uint8_t *event, size_t event_count, uint8_t *bridges,
-                 size_t bridges_count, uint8_t *devices, size_t devices_count, uint64_t answer[8]);
+                 size_t bridges_count, uint8_t *devices, size_t devices_count, uint64_t answer[RACK_ANSWER_NUMBERS]);
 
-/* The check of the rack with these registers: RACK_PASS or RACK_FAULT. */
+/* The check of the rack with these registers: RACK_ENDED_PASS or RACK_ENDED_FAULT. */
 uint8_t rack_check(const uint8_t *rack, size_t rack_count, const uint8_t *bridges, size_t bridges_count, const uint8_t *devices,
-                   size_t devices_count, uint64_t answer[8]);
+                   size_t devices_count, uint64_t answer[RACK_ANSWER_NUMBERS]);
 
 /* Fills both images with the values at reset. Refused by 1 to 4, 6 to 10 and 11. */
 uint8_t rack_reset(const uint8_t *rack, size_t rack_count, uint8_t *bridges, size_t bridges_count, uint8_t *devices,
                    size_t devices_count);
 
-/* Both ends of window k of a bridge (0 memory, 1 prefetchable memory, 2 I/O) or of region k of a device: answer[0] is 1, answer[1] the
- * first address and answer[2] the last; or all is 0 where the window is empty or the device has no such region. */
+/* Both ends of window k of a bridge or of region k of a device: answer[0] is 1, answer[1] the first address and answer[2] the last; or
+ * all is 0 where the window is empty or the device has no such region.
+ *
+ * Base and limit alone are decoded, of a region its base and size. Nothing else counts: not command bits 0, 1 and 2, which say whether
+ * anyone claims at all, not ISA enable, which cuts holes into an I/O window, and not VGA enable, which adds addresses outside. */
 uint8_t rack_window(const uint8_t *rack, size_t rack_count, const uint8_t *bridges, size_t bridges_count, const uint8_t *devices,
-                    size_t devices_count, uint8_t node, uint8_t k, uint64_t answer[8]);
+                    size_t devices_count, uint8_t node, uint8_t k, uint64_t answer[RACK_ANSWER_NUMBERS]);
+
+/* What a refusal means, in words; for any other number, that it is none. */
+static inline const char *rack_refusal_text(unsigned refusal)
+{
+    switch (refusal) {
+    case 0: return "accepted";
+    case RACK_REFUSED_TOO_LONG: return "the rack is longer than 65,536 bytes";
+    case RACK_REFUSED_KIND: return "a record's kind is none that may stand here";
+    case RACK_REFUSED_CUT_SHORT: return "a record is cut short, or the event has another length than its own";
+    case RACK_REFUSED_HOST: return "the host record is missing or stands twice";
+    case RACK_REFUSED_AFTER_EVENT: return "a rack record follows an event";
+    case RACK_REFUSED_TOO_MANY: return "there is a 33rd bridge or a 65th device";
+    case RACK_REFUSED_PARENT: return "a parent is neither the root bus nor an earlier bridge";
+    case RACK_REFUSED_DEVICE: return "a device number is above 15";
+    case RACK_REFUSED_DEVICE_TAKEN: return "a device number is taken on its bus";
+    case RACK_REFUSED_REGION: return "a region's kind or exponent is out of range";
+    case RACK_REFUSED_IMAGE_LENGTH: return "an image has the wrong length";
+    case RACK_REFUSED_FIXED_BIT: return "a fixed register bit differs from its reset value";
+    case RACK_REFUSED_FIELD: return "a field is out of range, or names what is not there";
+    default: return "no refusal has this number";
+    }
+}
 
 #ifdef __cplusplus
 }

@@ -30,7 +30,7 @@ static struct bytes take(size_t count)
 }
 
 static uint8_t call(const uint8_t *head, struct bytes rack, struct bytes event, struct bytes bridges, struct bytes devices,
-                    uint64_t answer[8])
+                    uint64_t answer[RACK_ANSWER_NUMBERS])
 {
     switch (head[0]) {
     case 8:
@@ -38,7 +38,7 @@ static uint8_t call(const uint8_t *head, struct bytes rack, struct bytes event, 
     case 9:
         return rack_check(rack.at, rack.count, bridges.at, bridges.count, devices.at, devices.count, answer);
     case 10:
-        memset(answer, 0, 8 * sizeof *answer);
+        memset(answer, 0, RACK_ANSWER_NUMBERS * sizeof *answer);
         return rack_reset(rack.at, rack.count, bridges.at, bridges.count, devices.at, devices.count);
     case 11:
         return rack_window(rack.at, rack.count, bridges.at, bridges.count, devices.at, devices.count, head[11], head[12], answer);
@@ -48,10 +48,10 @@ static uint8_t call(const uint8_t *head, struct bytes rack, struct bytes event, 
     }
 }
 
-static void put(uint8_t code, const uint64_t answer[8], struct bytes bridges, struct bytes devices)
+static void put(uint8_t code, const uint64_t answer[RACK_ANSWER_NUMBERS], struct bytes bridges, struct bytes devices)
 {
     putchar(code);
-    for (int i = 0; i < 8; i++) {
+    for (int i = 0; i < RACK_ANSWER_NUMBERS; i++) {
         for (int shift = 0; shift < 64; shift += 8) {
             putchar((int)(answer[i] >> shift & 255));
         }
@@ -68,7 +68,7 @@ int main(void)
     while (fread(head, 1, sizeof head, stdin) == sizeof head) {
         struct bytes rack = take(number(&head[1], 4)), event = take(number(&head[5], 2));
         struct bytes bridges = take(number(&head[7], 2)), devices = take(number(&head[9], 2));
-        uint64_t answer[8];
+        uint64_t answer[RACK_ANSWER_NUMBERS];
         memset(answer, 0xA5, sizeof answer); /* what a call leaves unwritten shows */
         uint8_t code = call(head, rack, event, bridges, devices, answer);
         put(code, answer, bridges, devices);

@@ -2,7 +2,7 @@
  *
  * An input is one call of a script (CALLS.md, operations 8 to 11), its counts cut to the bytes that are there. Every buffer ends at a
  * page that may not be touched: the archive is not compiled with a sanitizer, and a step past a buffer's end is then seen all the same.
- * What a call promises in general is looked at: a number up to 13; on a refusal all 0 and both images untouched.
+ * What a call promises in general is looked at: 0 or the number of a refusal; on a refusal all 0 and both images untouched.
  *
  *     clang -g -O1 -fsanitize=fuzzer,address tests/fuzz.c -Ltarget/staticlib -lmuzgante     (libFuzzer)
  *     tests/fuzz [CALLS [SEED]]                                                             (gcc, the driver below)
@@ -18,7 +18,7 @@
 
 int LLVMFuzzerTestOneInput(const uint8_t *input, size_t size);
 
-enum { HEAD = 18, ROOM = 1 << 18 };
+enum { HEAD = 18, ROOM = 1 << 18, ANSWER_BYTES = 8 * RACK_ANSWER_NUMBERS };
 
 /* Bytes that end where a guarded page begins. */
 struct guarded {
@@ -86,8 +86,8 @@ int LLVMFuzzerTestOneInput(const uint8_t *input, size_t size)
     }
     uint8_t *rack = put(buffers[0], from[0], counts[0]), *event = put(buffers[1], from[1], counts[1]);
     uint8_t *bridges = put(buffers[2], from[2], counts[2]), *devices = put(buffers[3], from[3], counts[3]);
-    uint64_t *answer = (uint64_t *)(void *)(buffers[4].end - 64), zeros[8] = {0};
-    memset(answer, 0xA5, 64);
+    uint64_t *answer = (uint64_t *)(void *)(buffers[4].end - ANSWER_BYTES), zeros[RACK_ANSWER_NUMBERS] = {0};
+    memset(answer, 0xA5, ANSWER_BYTES);
     uint8_t code;
     switch (input[0] % 4) {
     case 0:
@@ -97,16 +97,16 @@ int LLVMFuzzerTestOneInput(const uint8_t *input, size_t size)
         code = rack_check(rack, counts[0], bridges, counts[2], devices, counts[3], answer);
         break;
     case 2:
-        memset(answer, 0, 64);
+        memset(answer, 0, ANSWER_BYTES);
         code = rack_reset(rack, counts[0], bridges, counts[2], devices, counts[3]);
         break;
     default:
         code = rack_window(rack, counts[0], bridges, counts[2], devices, counts[3], input[11], input[12], answer);
     }
-    expect(code <= 13, "a number above 13");
+    expect(code <= RACK_REFUSED_FIELD, "a number that is no refusal");
     expect(memcmp(rack, from[0], counts[0]) == 0 && memcmp(event, from[1], counts[1]) == 0, "the rack or the event was written");
     if (code != 0) {
-        expect(memcmp(answer, zeros, 64) == 0, "a refused answer is not all 0");
+        expect(memcmp(answer, zeros, ANSWER_BYTES) == 0, "a refused answer is not all 0");
         expect(memcmp(bridges, from[2], counts[2]) == 0 && memcmp(devices, from[3], counts[3]) == 0, "a refusal changed an image");
     }
     return 0;

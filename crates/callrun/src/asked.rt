@@ -1,10 +1,10 @@
 // What a call of the script asks for.
-use header::register::byte_at;
+use file_record::number::dword_in;
+use file_record::number::qword_in;
+use file_record::number::word_in;
+use file_record::record::node_in;
 use rack::Rack;
-use rackfile::number::dword_in;
-use rackfile::number::qword_in;
-use rackfile::number::word_in;
-use rackfile::record::node_in;
+use register_header::register::byte_at;
 
 // The head of a call.
 pub struct Asked {

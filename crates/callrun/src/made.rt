@@ -1,16 +1,16 @@
 // The calls, each with its answer as eight numbers; what is returned is 0 or the refusal's number.
 use crate::asked::Asked;
-use answers::put_ends;
-use answers::put_reply;
-use calls::Number;
-use open_calls::read_register;
-use open_calls::run_check;
-use open_calls::run_event;
-use open_calls::size_region;
-use open_calls::window_ends;
-use open_calls::write_register;
+use call_numbers::put_ends;
+use call_numbers::put_reply;
+use call_open::read_register;
+use call_open::run_check;
+use call_open::run_event;
+use call_open::size_region;
+use call_open::window_ends;
+use call_open::write_register;
+use call_table::Number;
+use file_record::events::event_in;
 use rack::Rack;
-use rackfile::events::event_in;
 
 fn put_number(answer: &mut [u64; 8], n: Number) -> u8 {
     match n {

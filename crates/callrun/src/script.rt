@@ -5,9 +5,9 @@ use crate::asked::Asked;
 use crate::asked::asked_in;
 use crate::asked::rack_in;
 use crate::made::make;
+use call_open::view;
 use libc::STDIN_FILENO;
 use libc::STDOUT_FILENO;
-use open_calls::view;
 use rack::Rack;
 
 // Room for any image of a script.

@@ -1,1 +1,1 @@
-// Demands 1 and 3 over the open calls; no code.
+// The demands, stated and proved; no code.

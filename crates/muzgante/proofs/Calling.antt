@@ -1,27 +1,26 @@
 -- What each call from C says once its rack is read: the number of a refused one, the answer of an accepted one.
--- Assumes nothing.
 use mathlib.Core.Path.{_≡_, refl, sym, ap, _∙_}
 use mathlib.Core.Bool.{Bool, true, false}
 use mathlib.Core.List.{List}
 use Prim.Native.Nat.{ℕ}
 use native.Mathlib.Omega.{arith}
-use Rattle.rack.specs.Tree.{Tree}
-use Rattle.rack.specs.Table.{treeOf}
-use Rattle.rack.specs.First.{_when_, _or_, unless}
-use Rattle.rack.specs.FirstLaws.{or-this, or-next, unless-number, unless-none}
-use Rattle.registers.specs.Image.{Images, images}
-use Rattle.registers.specs.Fixed.{lengthsWrong}
-use Rattle.registers.specs.Reset.{resetImages}
-use Rattle.rackfile.specs.declared.Event.{Event}
-use Rattle.rackfile.specs.declared.Loaded.{Loaded}
-use Rattle.rackfile.specs.Events.{eventIn, eventBytes}
-use Rattle.rackfile.specs.Load.{rackAlone}
-use Rattle.rackfile.specs.Loads.{Loads}
-use Rattle.calls.specs.declared.Reply.{Reply}
-use Rattle.calls.specs.declared.Bounds.{Bounds}
-use Rattle.calls.specs.Call.{replied, runIn, checkIn, boundsIn}
-use Rattle.answers.specs.Numbers.{zeros, codeOf, replyNumbers, endsCode, endsNumbers}
-use Rattle.muzgante.specs.Called.{called, refusedCall, repliedCall, endsCall, rackRun, rackCheck, rackWindow, resetRefusal, rackReset}
+use Rattle.rack.specs.definitions.Tree.{Tree}
+use Rattle.rack.specs.definitions.Table.{treeOf}
+use Rattle.rack.specs.definitions.First.{_when_, _or_, unless}
+use Rattle.rack.specs.laws.FirstLaws.{or-this, or-next, unless-number, unless-none}
+use Rattle.register_image.specs.definitions.Image.{Images, images}
+use Rattle.register_image.specs.definitions.Fixed.{lengthsWrong}
+use Rattle.register_image.specs.definitions.Reset.{resetImages}
+use Rattle.file_record.specs.declared.Event.{Event}
+use Rattle.file_record.specs.declared.Loaded.{Loaded}
+use Rattle.file_record.specs.definitions.Events.{eventIn, eventBytes}
+use Rattle.file_record.specs.definitions.Load.{rackAlone}
+use Rattle.file_record.specs.definitions.Loads.{Loads}
+use Rattle.call_table.specs.declared.Reply.{Reply}
+use Rattle.call_table.specs.declared.EndsReply.{EndsReply}
+use Rattle.call_table.specs.definitions.Call.{replied, runIn, checkIn, endsIn}
+use Rattle.call_numbers.specs.definitions.Numbers.{zeros, codeOf, replyNumbers, endsCode, endsNumbers}
+use Rattle.muzgante.specs.definitions.Called.{called, refusedCall, repliedCall, endsCall, rackRun, rackCheck, rackWindow, resetRefusal, rackReset}
 
 -- a call that is refused, and one that is not
 module _ {A : Type 0} {n m : ℕ} (e : n ≡ m) (given : A) (refused : ℕ → A) where
@@ -81,11 +80,11 @@ module _ (b : List ℕ) {l : Loaded} where
     unfolding rackWindow
     window-without-rack i k bad er en = told bs ds er en ∙ sym (is-refused (loads .refusal) _ _ bad)
 
-    pub window-told : (i k : ℕ) → l .refusal ≡ 0 → {e : Bounds} → e ≡ boundsIn (treeOf (l .table)) (images bs ds) i k
+    pub window-told : (i k : ℕ) → l .refusal ≡ 0 → {e : EndsReply} → e ≡ endsIn (treeOf (l .table)) (images bs ds) i k
         → r ≡ endsCode e → ns ≡ endsNumbers e → called r ns bs ds ≡ rackWindow b (images bs ds) i k
     unfolding rackWindow
     window-told i k good ee er en =
-        rw (er, en) (ap (λ (e : Bounds). endsCall e (images bs ds)) (rw (held loads good) at ee))
+        rw (er, en) (ap (λ (e : EndsReply). endsCall e (images bs ds)) (rw (held loads good) at ee))
         ∙ sym (is-given (loads .refusal) _ _ good)
 
   -- the reset: a refused one writes nothing

@@ -1,10 +1,10 @@
 // The check, for C.
 ghost use mathlib.Core.Path.{_≡_};
-ghost use Rattle.registers.specs.Image.{images};
-ghost use Rattle.muzgante.specs.Called.{called, rackCheck};
-use answers::put_reply;
-use answers::refuse;
-use loading::load_alone;
+ghost use Rattle.register_image.specs.definitions.Image.{images};
+ghost use Rattle.muzgante.specs.definitions.Called.{called, rackCheck};
+use call_numbers::put_reply;
+use call_numbers::refuse;
+use file_load::load_alone;
 
 // The check of a rack with its registers. Returns 0, or the refusal's number with `answer` all 0.
 #[no_mangle]
@@ -20,6 +20,6 @@ pub extern "C" fn rack_check<'a>(
     if l.refusal != 0 {
         return refuse(answer, l.refusal);
     }
-    let r = calls::runs::check_on(&l.table, bridges, devices);
+    let r = call_table::runs::check_on(&l.table, bridges, devices);
     put_reply(answer, r)
 }

@@ -1,12 +1,12 @@
 // The event run, for C.
 ghost use mathlib.Core.Path.{_≡_};
-ghost use Rattle.registers.specs.Image.{images};
-ghost use Rattle.muzgante.specs.Called.{called, rackRun};
-use answers::put_reply;
-use answers::refuse;
-use loading::load_alone;
-use rackfile::events::event_bytes;
-use rackfile::events::event_in;
+ghost use Rattle.register_image.specs.definitions.Image.{images};
+ghost use Rattle.muzgante.specs.definitions.Called.{called, rackRun};
+use call_numbers::put_reply;
+use call_numbers::refuse;
+use file_load::load_alone;
+use file_record::events::event_bytes;
+use file_record::events::event_in;
 
 // One event of a rack on its registers. Returns 0, or the refusal's number with `answer` all 0 and both images untouched.
 #[no_mangle]
@@ -28,6 +28,6 @@ pub extern "C" fn rack_run(
         return refuse(answer, refusal);
     }
     let e = event_in(event, 0);
-    let r = calls::runs::run_on(&l.table, bridges, devices, e);
+    let r = call_table::runs::run_on(&l.table, bridges, devices, e);
     put_reply(answer, r)
 }

@@ -1,11 +1,11 @@
 // What the classroom screen asks for besides: registers at reset, and the ends of windows and regions.
 ghost use mathlib.Core.Path.{_≡_};
-ghost use Rattle.registers.specs.Image.{images};
-ghost use Rattle.answers.specs.Numbers.{zeros};
-ghost use Rattle.muzgante.specs.Called.{called, rackWindow, rackReset};
-use answers::put_ends;
-use answers::refuse;
-use loading::load_alone;
+ghost use Rattle.register_image.specs.definitions.Image.{images};
+ghost use Rattle.call_numbers.specs.definitions.Numbers.{zeros};
+ghost use Rattle.muzgante.specs.definitions.Called.{called, rackWindow, rackReset};
+use call_numbers::put_ends;
+use call_numbers::refuse;
+use file_load::load_alone;
 
 // Both images filled with their reset values. Returns 0, or the refusal's number with both images untouched.
 #[no_mangle]
@@ -16,10 +16,10 @@ pub extern "C" fn rack_reset(rack: &[u8], bridges: &mut [u8], devices: &mut [u8]
     if l.refusal != 0 {
         return l.refusal;
     }
-    if registers::fixed::lengths_wrong(&l.table, bridges, devices) {
+    if register_image::fixed::lengths_wrong(&l.table, bridges, devices) {
         return 11;
     }
-    registers::reset::reset_images(&l.table, bridges, devices);
+    register_image::reset::reset_images(&l.table, bridges, devices);
     0
 }
 
@@ -40,6 +40,6 @@ pub extern "C" fn rack_window<'a>(
     if l.refusal != 0 {
         return refuse(answer, l.refusal);
     }
-    let e = calls::nodes::ends_on(&l.table, bridges, devices, node, k);
+    let e = call_table::nodes::ends_on(&l.table, bridges, devices, node, k);
     put_ends(answer, e)
 }

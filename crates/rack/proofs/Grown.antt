@@ -1,5 +1,4 @@
 -- A table that is filled node by node: what an empty one holds, one with a node more, and one with the nodes of a rack.
--- Assumes nothing.
 use mathlib.Core.Path.{_≡_, refl, ap, _∙_, fun-ext}
 use mathlib.Core.Bool.{Bool, cond}
 use mathlib.Core.List.{List}
@@ -12,13 +11,13 @@ use lib.Seq.{getD-set-same, getD-set-other}
 use Rattle.rack.specs.declared.Node.{Node}
 use Rattle.rack.specs.declared.Rack.{Rack}
 use Rattle.rack.specs.declared.Range.{Range}
-use Rattle.rack.specs.Node.{isBridge, spelt, noNode}
-use Rattle.rack.specs.Bools.{tested}
-use Rattle.rack.specs.Tree.{Tree, placeOf, bridgesBelow, devicesBelow, bridgeCount, deviceCount, imageCount, busDepth, deepestOf, treeWith, counting, firstNodes, tree}
-use Rattle.rack.specs.TreeLaws.{tree-same, devices-left}
-use Rattle.rack.specs.Table.{Low, High, End, lowAt, highAt, nodeAt, placeAt, depthAt, treeOf, tableWith}
-use Rattle.rack.specs.Grow.{noTree, nodesWith, newDepth, grown}
-use Rattle.rack.specs.GrowLaws.{grown-with}
+use Rattle.rack.specs.definitions.Node.{isBridge, spelt, noNode}
+use Rattle.rack.specs.laws.Bools.{tested}
+use Rattle.rack.specs.definitions.Tree.{Tree, placeOf, bridgesBelow, devicesBelow, bridgeCount, deviceCount, imageCount, busDepth, deepestOf, treeWith, counting, firstNodes, tree}
+use Rattle.rack.specs.laws.TreeLaws.{tree-same, devices-left}
+use Rattle.rack.specs.definitions.Table.{Low, High, End, lowAt, highAt, nodeAt, placeAt, depthAt, treeOf, tableWith}
+use Rattle.rack.specs.definitions.Grow.{noTree, nodesWith, newDepth, grown}
+use Rattle.rack.specs.laws.GrowLaws.{grown-with}
 use Rattle.rack.proofs.Words.{kept, low-in, high-in, end-in, low-same, high-same, node-same, node-back}
 
 all-0 : (m k : ℕ) → getD {A = ℕ} (replicate m 0) k 0 ≡ 0
@@ -158,7 +157,7 @@ to-more rack k {t} {u} e g =
     g ∙ rw e (grown-with h (firstNodes rack k) k (getD (rack .nodes) k noNode))
     ∙ ap (λ (node : ℕ → Node). treeWith h node (k + 1)) (fun-ext (first-more rack h k))
 
--- the place of a bridge or a device behind the last, by the count of bridges alone
+-- the place of a bridge or a device after the last, by the count of bridges alone
 pub place-next : (node : ℕ → Node) (b : Bool) {n count bridges p : ℕ} → n ≡ count → bridges ≡ bridgesBelow node n → p ≡ cond b bridges (n - bridges)
     → p ≡ cond b (bridgesBelow node count) (devicesBelow node count)
 place-next node b at e q = q ∙ rw (e, at, devices-left node _)

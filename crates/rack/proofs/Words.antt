@@ -1,5 +1,4 @@
 -- The two words of a node: set in a table, and read back.
--- Assumes nothing.
 use mathlib.Core.Path.{_≡_, refl, _∙_}
 use mathlib.Core.List.{List}
 use Prim.Native.Nat.{ℕ, _+_, _*_, _/_, _%_, _<_}
@@ -11,9 +10,9 @@ use lib.Seq.{getD-set-same, getD-set-other}
 use Rattle.rack.specs.declared.Kind.{Kind}
 use Rattle.rack.specs.declared.Kind.the-variants.{Device, Bridge}
 use Rattle.rack.specs.declared.Node.{Node}
-use Rattle.rack.specs.Bools.{tested}
-use Rattle.rack.specs.Node.{kindNumber, spelt}
-use Rattle.rack.specs.Table.{Low, High, kindFrom, nodeFrom, lowAt, highAt, nodeAt, tableWith}
+use Rattle.rack.specs.laws.Bools.{tested}
+use Rattle.rack.specs.definitions.Node.{kindNumber, spelt}
+use Rattle.rack.specs.definitions.Table.{Low, High, kindFrom, nodeFrom, lowAt, highAt, nodeAt, tableWith}
 
 -- a node whose two words are those of another table
 module _ (table other : List ℕ) (k : ℕ) (low : k < 96 → getD table (2 * k) 0 ≡ getD other (2 * k) 0)

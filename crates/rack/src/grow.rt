@@ -3,9 +3,9 @@ ghost use mathlib.Core.Path.{_≡_};
 ghost use mathlib.Core.Bool.{cond};
 ghost use Prim.Native.Nat.{_+_, _<_};
 ghost use lib.ListN.{length};
-ghost use Rattle.rack.specs.Tree.{bridgeCount, deviceCount};
-ghost use Rattle.rack.specs.Table.{treeOf, tableWith};
-ghost use Rattle.rack.specs.Grow.{noTree, newDepth, grown};
+ghost use Rattle.rack.specs.definitions.Tree.{bridgeCount, deviceCount};
+ghost use Rattle.rack.specs.definitions.Table.{treeOf, tableWith};
+ghost use Rattle.rack.specs.definitions.Grow.{noTree, newDepth, grown};
 use crate::Node;
 use crate::Range;
 use crate::table::Table;
@@ -29,7 +29,7 @@ pub fn no_table(host: Range) -> Table
     table
 }
 
-// The place of a bridge, or of a device, behind the last.
+// The place of a bridge, or of a device, after the last.
 fn new_place(table: &Table, is: bool) -> u8
     requires { ⌜ treeOf (now table) .count < 96 ⌝ }
     ensures { λ r. ⌜ r ≡ cond is (bridgeCount (treeOf (now (table .entry)))) (deviceCount (treeOf (now (table .entry)))) ⌝ }
@@ -40,7 +40,7 @@ fn new_place(table: &Table, is: bool) -> u8
     pick(is, bridges as u8, devices as u8)
 }
 
-// The depth of the bus that a node behind the last would hold.
+// The depth of the bus that a node after the last would hold.
 fn new_depth(table: &Table, parent: u8) -> u8
     requires { ⌜ treeOf (now table) .count < 96 ⌝ }
     ensures { λ r. ⌜ r ≡ newDepth (treeOf (now (table .entry))) parent ⌝ }
@@ -64,7 +64,7 @@ fn put_words(table: &mut Table, at: usize, low: u64, high: u64, end: u64)
     all[194] = end;
 }
 
-// One node more, behind the last.
+// One node more, after the last.
 pub fn add_node(table: &mut Table, n: Node)
     requires { ⌜ treeOf (now table) .count < 96 ⌝ }
     ensures { λ _. ⌜ treeOf (now (table .exit)) ≡ grown (treeOf (now (table .entry))) n ⌝ }

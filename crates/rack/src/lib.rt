@@ -1,6 +1,6 @@
 // A rack: the host's memory and a tree of bridges and devices, as document 01's rack records give it.
 ghost use mathlib.Core.Path.{_≡_};
-ghost use Rattle.rack.specs.Node.{kindNumber, isBridge};
+ghost use Rattle.rack.specs.definitions.Node.{kindNumber, isBridge};
 
 pub mod grow;
 pub mod table;
@@ -34,7 +34,7 @@ pub struct Range {
 }
 
 // A decoded rack: first and last address of host memory, and `count` nodes in file order.
-// It may hold anything; crate `refusals` says whether it is a rack.
+// It may hold anything; crate `rack_refusals` says whether it is a rack.
 pub struct Rack {
     pub first: u64,
     pub last: u64,

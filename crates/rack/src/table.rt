@@ -2,9 +2,9 @@
 ghost use mathlib.Core.Path.{_≡_};
 ghost use Prim.Native.Nat.{_+_, _/_, _%_, _<_, min, max};
 ghost use mathlib.Core.Bool.{cond};
-ghost use Rattle.rack.specs.Tree.{tree, counting, bridgesBelow};
-ghost use Rattle.rack.specs.Node.{isBridge};
-ghost use Rattle.rack.specs.Table.{Bytes, Low, High, End, kindFrom, nodeFrom, lowAt, highAt, nodeAt, treeOf};
+ghost use Rattle.rack.specs.definitions.Tree.{tree, counting, bridgesBelow};
+ghost use Rattle.rack.specs.definitions.Node.{isBridge};
+ghost use Rattle.rack.specs.definitions.Table.{Bytes, Low, High, End, kindFrom, nodeFrom, lowAt, highAt, nodeAt, treeOf};
 use crate::Kind;
 use crate::Node;
 use crate::Rack;

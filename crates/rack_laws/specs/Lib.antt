@@ -1,9 +1,1 @@
-pub mod Counts
-pub mod First
-pub mod Refusals
-pub mod Sound
-pub mod Places
-pub mod Depths
-pub mod Stored
-pub mod Agents
-pub mod Grown
+pub mod laws

@@ -1,4 +1,5 @@
 -- What the proofs of several needs use.
-mod Onward
+mod Ends
 mod Read
 mod Room
+mod Within

@@ -1,22 +1,30 @@
 -- What the program takes from a read file.
-use mathlib.Core.Path.{_≡_, sym, ap, _∙_}
+use mathlib.Core.Path.{_≡_, sym, _∙_}
 use Prim.Native.Nat.{ℕ, _≤_}
 use mathlib.Core.List.{List}
 use lib.ListN.{length}
-use Rattle.rack.specs.Table.{treeOf}
-use Rattle.rack.specs.Refusal.{rackRefusal}
-use Rattle.rackfile.specs.declared.Loaded.{Loaded}
-use Rattle.rackfile.specs.Load.{fileIn}
-use Rattle.rackfile.specs.Loads.{Loads}
-use Rattle.rackfile.specs.LoadLaws.{file-accepted, file-long, file-offset}
+use Rattle.rack.specs.definitions.Table.{treeOf}
+use Rattle.rack.specs.definitions.Tree.{Tree}
+use Rattle.rack.specs.definitions.Refusal.{rackRefusal}
+use Rattle.file_record.specs.declared.Loaded.{Loaded}
+use Rattle.file_record.specs.definitions.Load.{fileIn}
+use Rattle.file_record.specs.definitions.Loads.{Loads}
+use Rattle.file_record.specs.laws.LoadLaws.{file-accepted, file-long, file-offset}
+use Rattle.rackrun.specs.definitions.Run.{Accepted}
 
 module _ (b : List ℕ) (r : Loaded) (l : Loads r (fileIn b)) where
   pub loaded-offset : r .offset ≤ 65536
   loaded-offset = rw (l .offset) (file-offset b)
 
-  module _ (z : r .refusal ≡ 0) where
-    pub loaded-accepted : rackRefusal (treeOf (r .table)) ≡ 0
-    loaded-accepted = let e = sym (l .refusal) ∙ z in ap rackRefusal (l .tree e) ∙ file-accepted b e
+  pub loaded-accepted : r .refusal ≡ 0 → Accepted b (treeOf (r .table)) (r .offset)
+  loaded-accepted z =
+      let e = sym (l .refusal) ∙ z in
+      record { refusal = e; tree = l .tree e; first = l .offset }
 
-    pub loaded-long : length b ≤ 65536
-    loaded-long = file-long b (sym (l .refusal) ∙ z)
+-- its rack is accepted, and it is no longer than a file may be
+module _ (b : List ℕ) {t : Tree} {offset : ℕ} (a : Accepted b t offset) where
+  pub accepted-rack : rackRefusal t ≡ 0
+  accepted-rack = rw (a .tree) (file-accepted b (a .refusal))
+
+  pub accepted-long : length b ≤ 65536
+  accepted-long = file-long b (a .refusal)

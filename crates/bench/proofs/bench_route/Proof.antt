@@ -1,60 +1,40 @@
-use mathlib.Core.Path.{_≡_, refl}
-use Prim.Native.Nat.{_-_}
-use lib.ListN.{length}
+use Rattle.rack.specs.definitions.Table.{treeOf}
+use Rattle.register_image.specs.definitions.Image.{images}
+use Rattle.bench.proofs.Measured.{route-shown}
 use borrow.Author.Needs.{needs}
 use Rattle.bench.proofs.bench_route.Statement.{statement}
 use Rattle.bench.proofs.bench_route.Tie as tie
 
-abbrev Inv-loop : tie.InvT-loop
-Inv-loop table bridges₀ devices₀ initiator address rounds shown₀ i₀ bridges devices shown i =
-    (length bridges ≡ length bridges₀) × (length devices ≡ length devices₀)
+reading-at-requires : tie.Need-reading-at-requires
+reading-at-requires c κs = search needs
 
-abbrev μ-loop : tie.MeasureT-loop
-μ-loop table bridges₀ devices₀ initiator address rounds shown₀ i₀ bridges devices shown i = rounds - i
+route-access-requires : tie.Need-route-access-requires
+route-access-requires c κs = search needs
 
-refusal-of-requires : tie.Need-refusal-of-requires Inv-loop μ-loop
-refusal-of-requires c κs = search needs
+shown-of-requires : tie.Need-shown-of-requires
+shown-of-requires c κs = search needs
 
-returns : tie.Need-returns Inv-loop μ-loop
-returns c = search needs
-
-loop-holds : tie.Need-loop-holds Inv-loop μ-loop
-loop-holds c = (refl, refl)
-
-read-once-requires : tie.Need-read-once-requires Inv-loop μ-loop
-read-once-requires c κs = search needs
-
-add-i : tie.Need-add-i Inv-loop μ-loop
-add-i c = search needs
-
-loop-less : tie.Need-loop-less Inv-loop μ-loop
-loop-less c = search needs
-
-loop-again : tie.Need-loop-again Inv-loop μ-loop
-loop-again c = (search needs, search needs)
-
-same-length : tie.Need-same-length Inv-loop μ-loop
+same-length : tie.Need-same-length
 same-length c = search needs
 
-same-length-2 : tie.Need-same-length-2 Inv-loop μ-loop
+same-length-2 : tie.Need-same-length-2
 same-length-2 c = search needs
 
-returns-2 : tie.Need-returns-2 Inv-loop μ-loop
-returns-2 c = search needs
+returns : tie.Need-returns
+returns c =
+    let at-access = c .before .before .before .before .before in
+    let at-reading = at-access .before .before .before in
+    let a = at-reading .before .before .before .args in
+    route-shown (treeOf (a .table .now)) (images (a .bridges .now) (a .devices .now)) (a .initiator) (a .address)
+    (at-reading .reading-at .ensures) (at-access .route-access .ensures) (c .shown-of .ensures)
 
 pub bench-route-spec : {M : Type 1} → statement M
 bench-route-spec =
     tie.close
     (tie.spec
-    Inv-loop
-    μ-loop
-    refusal-of-requires
-    returns
-    loop-holds
-    read-once-requires
-    add-i
-    loop-less
-    loop-again
+    reading-at-requires
+    route-access-requires
+    shown-of-requires
     same-length
     same-length-2
-    returns-2)
+    returns)

@@ -1,4 +1,4 @@
-use Rattle.rackrun.proofs.Onward.{part-counted, part-forward}
+use Rattle.rackrun.proofs.Ends.{part-printed}
 use borrow.Author.Needs.{needs}
 use Rattle.rackrun.proofs.print_part.Statement.{statement}
 use Rattle.rackrun.proofs.print_part.Tie as tie
@@ -22,7 +22,7 @@ same-length-2 : tie.Need-same-length-2
 same-length-2 c = search needs
 
 returns : tie.Need-returns
-returns c = (search (part-counted, needs), search (part-forward, needs))
+returns c = search (part-printed, needs)
 
 same-length-3 : tie.Need-same-length-3
 same-length-3 c = search needs

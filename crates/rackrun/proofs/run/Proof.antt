@@ -1,4 +1,4 @@
-use Rattle.rackrun.proofs.Read.{loaded-offset, loaded-accepted, loaded-long}
+use Rattle.rackrun.proofs.Read.{loaded-offset, loaded-accepted}
 use borrow.Author.Needs.{needs}
 use Rattle.rackrun.proofs.run.Statement.{statement}
 use Rattle.rackrun.proofs.run.Tie as tie
@@ -13,7 +13,7 @@ returns : tie.Need-returns
 returns c = search needs
 
 run-loaded-requires : tie.Need-run-loaded-requires
-run-loaded-requires c κs = (search (loaded-accepted, needs), search (loaded-long, needs))
+run-loaded-requires c κs = search (loaded-accepted, needs)
 
 returns-2 : tie.Need-returns-2
 returns-2 c = search needs

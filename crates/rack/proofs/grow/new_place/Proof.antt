@@ -1,6 +1,6 @@
 use native.Mathlib.Omega.{arith}
-use Rattle.rack.specs.TreeLaws.{below-le}
-use Rattle.rack.specs.Table.{nodeAt}
+use Rattle.rack.specs.laws.TreeLaws.{below-le}
+use Rattle.rack.specs.definitions.Table.{nodeAt}
 use Rattle.rack.proofs.Grown.{place-next}
 use borrow.Author.Needs.{needs}
 use Rattle.rack.proofs.grow.new_place.Statement.{statement}

@@ -1,9 +1,9 @@
 use mathlib.Core.Path.{_≡_}
 use Prim.Native.Nat.{ℕ, _%_}
 use lib.Dec.{eqb}
-use Rattle.rack.specs.Bools.{tested}
-use Rattle.rack.specs.Node.{isBridge}
-use Rattle.rack.specs.Table.{kindFrom, nodeAt}
+use Rattle.rack.specs.laws.Bools.{tested}
+use Rattle.rack.specs.definitions.Node.{isBridge}
+use Rattle.rack.specs.definitions.Table.{kindFrom, nodeAt}
 use borrow.Author.Needs.{needs}
 use Rattle.rack.proofs.table.bridge_in.Statement.{statement}
 use Rattle.rack.proofs.table.bridge_in.Tie as tie

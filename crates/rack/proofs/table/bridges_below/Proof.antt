@@ -3,10 +3,10 @@ use mathlib.Core.Path.{_≡_, sym}
 use Prim.Native.Nat.{_≤_, _-_}
 use native.Mathlib.Omega.{arith}
 use lib.Dec.{lit≤}
-use Rattle.rack.specs.Node.{isBridge}
-use Rattle.rack.specs.CountLaws.{count-zero, count-again, count-all, count-le, cond-le}
-use Rattle.rack.specs.Tree.{bridgesBelow}
-use Rattle.rack.specs.Table.{nodeAt}
+use Rattle.rack.specs.definitions.Node.{isBridge}
+use Rattle.rack.specs.laws.CountLaws.{count-zero, count-again, count-all, count-le, cond-le}
+use Rattle.rack.specs.definitions.Tree.{bridgesBelow}
+use Rattle.rack.specs.definitions.Table.{nodeAt}
 use Rattle.rack.proofs.table.bridges_below.Statement.{statement}
 use Rattle.rack.proofs.table.bridges_below.Tie as tie
 

@@ -1,5 +1,5 @@
 use borrow.Author.Tests.{lt-ltb, le-ltb}
-use Rattle.rack.specs.Table.{highAt}
+use Rattle.rack.specs.definitions.Table.{highAt}
 use borrow.Author.Needs.{needs}
 use Rattle.rack.proofs.table.high_at.Statement.{statement}
 use Rattle.rack.proofs.table.high_at.Tie as tie

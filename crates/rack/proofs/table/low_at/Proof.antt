@@ -1,5 +1,5 @@
 use borrow.Author.Tests.{lt-ltb, le-ltb}
-use Rattle.rack.specs.Table.{lowAt}
+use Rattle.rack.specs.definitions.Table.{lowAt}
 use borrow.Author.Needs.{needs}
 use Rattle.rack.proofs.table.low_at.Statement.{statement}
 use Rattle.rack.proofs.table.low_at.Tie as tie

@@ -1,4 +1,4 @@
-use Rattle.rack.specs.Table.{nodeAt}
+use Rattle.rack.specs.definitions.Table.{nodeAt}
 use borrow.Author.Needs.{needs}
 use Rattle.rack.proofs.table.node_at.Statement.{statement}
 use Rattle.rack.proofs.table.node_at.Tie as tie

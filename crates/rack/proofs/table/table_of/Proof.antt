@@ -1,7 +1,7 @@
 use borrow.Author.Needs.{needs}
 use mathlib.Core.Path.{_≡_}
 use Prim.Native.Nat.{_≤_, _-_}
-use Rattle.rack.specs.Table.{treeOf}
+use Rattle.rack.specs.definitions.Table.{treeOf}
 use Rattle.rack.proofs.Grown.{treeTo, to-none, to-more, to-room, to-all}
 use Rattle.rack.proofs.table.table_of.Statement.{statement}
 use Rattle.rack.proofs.table.table_of.Tie as tie

@@ -1,0 +1,113 @@
+-- The open calls over a decoded rack and two images: each answers or refuses by number, and says what both images are then.
+use Prim.Native.Nat.{ℕ}
+use mathlib.Core.Bool.{Bool, _||_}
+use mathlib.Core.List.{List, [], _∷_}
+use lib.Dec.{leb, ltb}
+use Rattle.rack.specs.definitions.Node.{isBridge}
+use Rattle.rack.specs.definitions.First.{_when_, _or_, unless}
+use Rattle.rack.specs.definitions.Tree.{Tree}
+use Rattle.rack.specs.definitions.Refusal.{rackRefusal}
+use Rattle.register_header.specs.definitions.Register.{readRegister}
+use Rattle.register_image.specs.definitions.Image.{Images, images, view, writeNode}
+use Rattle.register_image.specs.definitions.Fixed.{imageRefusal}
+use Rattle.register_image.specs.definitions.Sizing.{sizeRegion}
+use Rattle.claim_agent.specs.declared.Ends.{Ends}
+use Rattle.claim_agent.specs.declared.Ends.the-variants as ends
+use Rattle.claim_agent.specs.definitions.Ends.{windowEnds}
+use Rattle.check_search.specs.definitions.Check.{check}
+use Rattle.file_record.specs.declared.Event.{Event}
+use Rattle.file_record.specs.definitions.Events.{eventWrong, registerWrong, writeWrong}
+use Rattle.event_run.specs.declared.Answer.the-variants.{Checked}
+use Rattle.event_run.specs.definitions.Answers.{Answered}
+use Rattle.event_run.specs.definitions.Run.{eventRun}
+use Rattle.call_table.specs.declared.Reply.{Reply}
+use Rattle.call_table.specs.declared.Reply.the-variants as reply
+use Rattle.call_table.specs.declared.Number.{Number}
+use Rattle.call_table.specs.declared.Number.the-variants as number
+use Rattle.call_table.specs.declared.EndsReply.{EndsReply}
+use Rattle.call_table.specs.declared.EndsReply.the-variants as ends-reply
+
+-- 01: 'Calls apply 6 to 10 to the decoded rack node by node, as a file would meet them, then 11 to 13, and return the number'; 0
+-- where the call is accepted. `own` is the number of what the call itself is given
+unfoldable pub refusalBy : Tree → Images → ℕ → ℕ
+refusalBy t im own = rackRefusal t or imageRefusal t im or own
+
+-- a node that a call names is missing
+abbrev pub missing : Tree → ℕ → Bool
+missing t i = leb (t .count) i
+
+-- 13 of a register read, and of a register write
+abbrev pub readRefusal : Tree → ℕ → ℕ → ℕ
+readRefusal t i register = 13 when (missing t i || registerWrong register)
+
+abbrev pub storeRefusal : Tree → ℕ → ℕ → ℕ → ℕ
+storeRefusal t i register enables = 13 when (missing t i || writeWrong register enables)
+
+-- of a view
+abbrev pub viewRefusal : Tree → ℕ → ℕ
+viewRefusal t i = 13 when missing t i
+
+-- of a region: a bridge has none, a device three; of a window or region: each node has three
+abbrev pub regionRefusal : Tree → ℕ → ℕ → ℕ
+regionRefusal t i r = 13 when (missing t i || (isBridge (t .node i .kind) || ltb 2 r))
+
+abbrev pub windowRefusal : Tree → ℕ → ℕ → ℕ
+windowRefusal t i k = 13 when (missing t i || ltb 2 k)
+
+-- of an event
+abbrev pub eventRefusal : Tree → Event → ℕ
+eventRefusal t e = 13 when eventWrong t e
+
+-- 01: 'Where an answer is an enum, the promises use a definition. That definition gives this paper's number and values for each of
+-- the enum's cases': the refusal's number, 0 where there is none, and the value
+abbrev pub numberCode : Number → ℕ
+numberCode (number.Refused n) = n
+numberCode (number.Value v) = 0
+
+abbrev pub numberValues : Number → List ℕ
+numberValues (number.Refused n) = []
+numberValues (number.Value v) = v ∷ []
+
+unfoldable pub readIn : Tree → Images → ℕ → ℕ → Number
+readIn t im i register =
+    unless (refusalBy t im (readRefusal t i register)) (number.Value (readRegister (view t im i) register)) number.Refused
+
+unfoldable pub sizeIn : Tree → Images → ℕ → ℕ → Number
+sizeIn t im i r = unless (refusalBy t im (regionRefusal t i r)) (number.Value (sizeRegion t im i r)) number.Refused
+
+-- a refused write stores nothing
+unfoldable pub storedIn : Tree → Images → ℕ → ℕ → ℕ → ℕ → Images
+storedIn t im i register enables put =
+    unless (refusalBy t im (storeRefusal t i register enables)) (writeNode t im i register enables put) (λ n. im)
+
+-- 01: 'The view shows an empty part'
+unfoldable pub viewIn : Tree → Images → ℕ → List ℕ
+viewIn t im i = unless (refusalBy t im (viewRefusal t i)) (view t im i) (λ n. [])
+
+-- both ends of a window or region
+abbrev pub endsReply : Ends → EndsReply
+endsReply ends.Empty = ends-reply.Empty
+endsReply (ends.FirstLast first last) = ends-reply.FirstLast first last
+
+unfoldable pub endsIn : Tree → Images → ℕ → ℕ → EndsReply
+endsIn t im i k = unless (refusalBy t im (windowRefusal t i k)) (endsReply (windowEnds t im i k)) ends-reply.Refused
+
+-- a refusal's number or an answer, with the images that it leaves
+pub record Replied : Type 0 where
+  pub reply : Reply
+  pub after : Images
+
+abbrev pub replied : Reply → List ℕ → List ℕ → Replied
+replied r b d = record { reply = r; after = images b d }
+
+abbrev pub ran : Answered → Replied
+ran a = record { reply = reply.Answered (a .answer); after = a .after }
+
+-- an event, the check too; a refusal leaves both images untouched
+unfoldable pub runIn : Tree → Images → Event → Replied
+runIn t im e =
+    unless (refusalBy t im (eventRefusal t e)) (ran (eventRun t im e)) (λ n. record { reply = reply.Refused n; after = im })
+
+-- the check alone: 'A check changes no register'
+unfoldable pub checkIn : Tree → Images → Reply
+checkIn t im = unless (refusalBy t im 0) (reply.Answered (Checked (check t im))) reply.Refused

@@ -1,0 +1,26 @@
+// What the open calls do over the table of a rack; `call_open` has them over a decoded rack, `muzgante` from C.
+
+pub mod nodes;
+pub mod refusal;
+pub mod runs;
+
+use event_run::Answer;
+
+// The answer to an event, or the refusal's number.
+pub enum Reply {
+    Refused(u8),
+    Answered(Answer),
+}
+
+// A number that was asked for, or the refusal's number.
+pub enum Number {
+    Refused(u8),
+    Value(u64),
+}
+
+// Both ends of a window or region, or the refusal's number.
+pub enum EndsReply {
+    Refused(u8),
+    Empty,
+    FirstLast(u64, u64),
+}

@@ -1,0 +1,81 @@
+// Refusals 6 to 13 of a call, in their order.
+ghost use mathlib.Core.Path.{_≡_};
+ghost use Rattle.rack.specs.definitions.First.{_when_};
+ghost use Rattle.rack.specs.definitions.Table.{treeOf};
+ghost use Rattle.register_image.specs.definitions.Image.{images};
+ghost use Rattle.call_table.specs.definitions.Call.{refusalBy, readRefusal, storeRefusal, viewRefusal, regionRefusal, windowRefusal, eventRefusal};
+use file_record::Event;
+use file_record::events::event_wrong;
+use rack::table::Table;
+use rack::table::count_of;
+use rack::table::is_bridge_at;
+
+// The refusal of a call, 0 where it is accepted; `own` is the number of what it is given itself.
+pub fn refusal_by<'a>(table: &Table, bridges: &'a [u8], devices: &'a [u8], own: u8) -> u8
+    ensures { λ r. ⌜ r ≡ refusalBy (treeOf (now (table .entry))) (images (now (bridges .entry)) (now (devices .entry))) own ⌝ }
+{
+    let tree = rack_refusals::refusal_of(table);
+    if tree != 0 {
+        return tree;
+    }
+    let image = register_image::fixed::image_refusal(table, bridges, devices);
+    if image != 0 {
+        return image;
+    }
+    own
+}
+
+// 13 of a field.
+fn field_refusal(wrong: bool) -> u8
+    ensures { λ r. ⌜ r ≡ 13 when wrong ⌝ }
+{
+    if wrong { 13 } else { 0 }
+}
+
+// 13 of a register read.
+pub(crate) fn read_refusal(table: &Table, i: u8, register: u8) -> u8
+    ensures { λ r. ⌜ r ≡ readRefusal (treeOf (now (table .entry))) i register ⌝ }
+{
+    let count = count_of(table);
+    field_refusal((count <= i) | !(register % 4 == 0))
+}
+
+// 13 of a register write.
+pub(crate) fn store_refusal(table: &Table, i: u8, register: u8, enables: u8) -> u8
+    ensures { λ r. ⌜ r ≡ storeRefusal (treeOf (now (table .entry))) i register enables ⌝ }
+{
+    let count = count_of(table);
+    field_refusal((count <= i) | (!(register % 4 == 0) | (15 < enables)))
+}
+
+// 13 of a view.
+pub(crate) fn view_refusal(table: &Table, i: u8) -> u8
+    ensures { λ r. ⌜ r ≡ viewRefusal (treeOf (now (table .entry))) i ⌝ }
+{
+    let count = count_of(table);
+    field_refusal(count <= i)
+}
+
+// 13 of a region: a missing node, a bridge, a fourth region.
+pub(crate) fn region_refusal(table: &Table, i: u8, r: u8) -> u8
+    ensures { λ s. ⌜ s ≡ regionRefusal (treeOf (now (table .entry))) i r ⌝ }
+{
+    let count = count_of(table);
+    let bridge = is_bridge_at(table, i);
+    field_refusal((count <= i) | (bridge | (2 < r)))
+}
+
+// 13 of a window or region.
+pub(crate) fn window_refusal(table: &Table, i: u8, k: u8) -> u8
+    ensures { λ r. ⌜ r ≡ windowRefusal (treeOf (now (table .entry))) i k ⌝ }
+{
+    let count = count_of(table);
+    field_refusal((count <= i) | (2 < k))
+}
+
+// 13 of an event.
+pub(crate) fn event_refusal(table: &Table, e: Event) -> u8
+    ensures { λ r. ⌜ r ≡ eventRefusal (treeOf (now (table .entry))) e ⌝ }
+{
+    field_refusal(event_wrong(table, e))
+}

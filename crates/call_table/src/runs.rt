@@ -1,0 +1,37 @@
+// The run of an event, and of a check, over the table of a rack.
+ghost use mathlib.Core.Path.{_≡_};
+ghost use Rattle.rack.specs.definitions.Table.{treeOf};
+ghost use Rattle.register_image.specs.definitions.Image.{images};
+ghost use Rattle.call_table.specs.definitions.Call.{replied, runIn, checkIn};
+use crate::Reply;
+use crate::refusal::event_refusal;
+use crate::refusal::refusal_by;
+use event_run::Answer;
+use event_run::run::answer_event;
+use file_record::Event;
+use rack::table::Table;
+
+// An event over a table: refused by 6 to 13, or run.
+pub fn run_on(table: &Table, bridges: &mut [u8], devices: &mut [u8], e: Event) -> Reply
+    ensures { λ r. ⌜ replied r (now (bridges .exit)) (now (devices .exit)) ≡ runIn (treeOf (now (table .entry))) (images (now (bridges .entry)) (now (devices .entry))) e ⌝ }
+{
+    let own = event_refusal(table, e);
+    let refusal = refusal_by(table, bridges, devices, own);
+    if refusal != 0 {
+        return Reply::Refused(refusal);
+    }
+    let a = answer_event(table, bridges, devices, e);
+    Reply::Answered(a)
+}
+
+// The check over a table: refused by 6 to 12, or made.
+pub fn check_on<'a>(table: &Table, bridges: &'a [u8], devices: &'a [u8]) -> Reply
+    ensures { λ r. ⌜ r ≡ checkIn (treeOf (now (table .entry))) (images (now (bridges .entry)) (now (devices .entry))) ⌝ }
+{
+    let refusal = refusal_by(table, bridges, devices, 0);
+    if refusal != 0 {
+        return Reply::Refused(refusal);
+    }
+    let r = check_sweep::buses::check_rack(table, bridges, devices);
+    Reply::Answered(Answer::Checked(r))
+}

@@ -1,0 +1,4 @@
+pub mod FirstLaws
+pub mod Stretch
+pub mod StretchLaws
+pub mod Swept

@@ -1,0 +1,5 @@
+pub mod Space
+pub mod Agent
+pub mod Claim
+pub mod Claimants
+pub mod Ends

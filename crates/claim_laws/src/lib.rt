@@ -1,0 +1,1 @@
+// Theorems about the definitions of `claim_window` and `claim_agent`; no code.

@@ -1,0 +1,70 @@
+-- Windows and areas from the registers that the code has read, and the end that it has cut.
+use mathlib.Core.Path.{_≡_}
+use mathlib.Core.Bool.{Bool, false, _||_}
+use mathlib.Core.List.{List}
+use mathlib.Core.Logic.{_≢_}
+use Prim.Native.Nat.{ℕ, _+_, _-_, _*_, _/_, _%_, _^_, _<_}
+use native.Mathlib.Omega.{arith}
+use borrow.Author.Tests.{leb-false, eq-eqb, ne-eqb, lt-ltb, lt-leb}
+use lib.Dec.{eqb, ltb}
+use lib.ListN.{getD}
+use Rattle.rack.specs.declared.Range.{Range}
+use Rattle.rack.specs.laws.Bools.{neither}
+use Rattle.register_header.specs.definitions.PciRegs as regs
+use Rattle.register_header.specs.definitions.Register.{bitAt, readRegister}
+use Rattle.register_header.specs.definitions.Sizing.{regionRegister}
+use Rattle.claim_window.specs.definitions.Range.{window}
+use Rattle.claim_window.specs.definitions.Window.{wordAt, memoryOf, prefetchableOf, ioOf, windowsOf}
+use Rattle.claim_window.specs.definitions.Area.{regionValue, areaOf}
+use Rattle.claim_window.specs.definitions.Cut.{cutIf, cutLow}
+
+module _ (part : List ℕ) where
+  pub memory-is : {b l : ℕ} {w : Range} → b ≡ wordAt part regs.MEMORY-BASE → l ≡ wordAt part regs.MEMORY-LIMIT
+      → w ≡ window 20 (b / 16) (l / 16) → w ≡ memoryOf part
+  memory-is eb el ew = rw (ew, eb, el)
+
+  pub io-is : {b l u v x y : ℕ} {w : Range} → b ≡ getD part regs.IO-BASE 0 → u ≡ wordAt part regs.IO-BASE-UPPER16
+      → x ≡ u * 16 + b / 16 → l ≡ getD part regs.IO-LIMIT 0 → v ≡ wordAt part regs.IO-LIMIT-UPPER16 → y ≡ v * 16 + l / 16
+      → w ≡ window 12 x y → w ≡ ioOf part
+  io-is eb eu ex el ev ey ew = rw (ew, ex, eb, eu, ey, el, ev)
+
+  pub windows-is : {c : ℕ} {m p i : Range} {isa vga wide : Bool} → c ≡ getD part regs.BRIDGE-CONTROL 0 → m ≡ memoryOf part → p ≡ prefetchableOf part
+      → i ≡ ioOf part → isa ≡ bitAt c regs.BRIDGE-CTL-ISA → vga ≡ bitAt c regs.BRIDGE-CTL-VGA
+      → wide ≡ bitAt c regs.BRIDGE-CTL-VGA16
+      → record {
+        memory = m;
+        prefetchable = p;
+        io = i;
+        isa = isa;
+        vga = vga;
+        vga16 = wide;
+      } ≡ windowsOf part
+  unfolding windowsOf
+  windows-is ec em ep ei ea eb ew = rw (em, ep, ei, ea, eb, ew, ec)
+
+  module _ (kind register : ℕ) (h : register < 60) {v : ℕ} where
+    pub value-wide : {low high : ℕ} → kind ≡ 3 → low ≡ readRegister part register → high ≡ readRegister part (register + 4)
+        → v ≡ high * 2 ^ 32 + low → v ≡ regionValue part kind register
+    unfolding readRegister
+    value-wide q el eh ev =
+        simp (eq-eqb kind 3 q, ev, eh, el, lt-ltb (register + 4) 64 (omega arith), lt-ltb register 64 (omega arith))
+
+    pub value-dword : kind ≢ 3 → v ≡ readRegister part register → v ≡ regionValue part kind register
+    unfolding readRegister
+    value-dword q ev = simp (ne-eqb kind 3 q, ev, lt-ltb register 64 (omega arith))
+
+  pub area-is : (kind e r : ℕ) {v : ℕ} {g : Range} → (eqb kind 0 || ltb 31 e) ≡ false → v ≡ regionValue part kind (regionRegister r)
+      → g ≡ window e (v / 2 ^ e) (v / 2 ^ e) → record { io = eqb kind 1; range = g } ≡ areaOf part kind e r
+  unfolding areaOf
+  area-is kind e r q ev eg = rw (q, eg, ev)
+
+-- what has an area has at most 2 to the 31 addresses
+pub exponent-below : (kind e : ℕ) → (eqb kind 0 || ltb 31 e) ≡ false → e < 32
+exponent-below kind e q = leb-false 32 e (neither (eqb kind 0) (ltb 31 e) q .1)
+
+pub low-is : (isa vga : Bool) (a e : ℕ) {v w x y z r : ℕ} → a < 0x10000 → v ≡ cutIf isa (a - a % 1024 + 0x100) a e
+    → w ≡ cutIf vga (a - a % 1024 + 0x3B0) a v → x ≡ cutIf vga (a - a % 1024 + 0x3BC) a w
+    → y ≡ cutIf vga (a - a % 1024 + 0x3C0) a x → z ≡ cutIf vga (a - a % 1024 + 0x3E0) a y
+    → r ≡ cutIf (isa || vga) (a - a % 1024 + 0x400) a z → r ≡ cutLow isa vga a e
+unfolding cutLow
+low-is isa vga a e h ev ew ex ey ez er = rw (lt-leb 0x10000 a h, er, ez, ey, ex, ew, ev)

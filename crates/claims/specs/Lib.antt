@@ -1,6 +1,0 @@
-pub mod Space
-pub mod Agent
-pub mod Claim
-pub mod Claimants
-pub mod ClaimantLaws
-pub mod Ends

@@ -1,0 +1,86 @@
+-- What demand 3 says of events over the calls.
+use Prim.Native.Nat.{ℕ, _^_, _≤_, _<_}
+use Rattle.file_record.specs.declared.Event.{Event}
+use Rattle.file_record.specs.declared.Event.the-variants.{Write, Read, Memory, Io, Check}
+use Rattle.event_run.specs.definitions.Answers.{answerNumber, crossingsOf, Answered}
+use Rattle.call_table.specs.declared.Reply.{Reply}
+use mathlib.Core.Path.{_≡_}
+use mathlib.Core.Bool.{true, false}
+use mathlib.Core.Logic.{_⊎_}
+use lib.Dec.{eqb}
+use Rattle.rack.specs.definitions.Tree.{Tree, host}
+use Rattle.register_image.specs.definitions.Image.{Images}
+use Rattle.claim_agent.specs.declared.Space.the-variants as space
+use Rattle.route_bus.specs.definitions.End.{Out}
+use Rattle.event_run.specs.definitions.Run.{configuration, addressed, ended}
+use Rattle.call_table.specs.declared.Reply.the-variants as reply
+use Rattle.demand_passed.specs.definitions.Way.{Went, startOf, Silenced}
+use mathlib.Core.List.{List, [], _∷_}
+use Rattle.call_table.specs.definitions.Call.{runIn}
+use Rattle.route.specs.definitions.Route.{drives}
+
+-- the fields of an event fit their types
+abbrev pub Fits : Event → Type 0
+Fits (Write bus devfn register enables put) = bus ≤ 255
+Fits (Read bus devfn register) = bus ≤ 255
+Fits (Memory initiator direction address) = address < 2 ^ 64
+Fits (Io initiator direction address) = address < 2 ^ 32
+Fits Check = Unit {0}
+
+-- 0 is a refusal's number
+abbrev pub replyNumber : Reply → ℕ
+replyNumber (reply.Refused n) = 0
+replyNumber (reply.Answered a) = answerNumber a
+
+-- the crossings that a reply carries
+abbrev pub crossings : Reply → ℕ
+crossings (reply.Refused n) = 0
+crossings (reply.Answered a) = crossingsOf a
+
+-- 01: 'An access starts on the bus its initiator sits on, a configuration access and one of the host on the root bus'
+abbrev pub startBus : Tree → Event → ℕ
+startBus t (Write bus devfn register enables put) = host
+startBus t (Read bus devfn register) = host
+startBus t (Memory initiator direction address) = startOf t initiator
+startBus t (Io initiator direction address) = startOf t initiator
+startBus t Check = host
+
+-- how an event that is run goes: never driven, or from one claimant to the next to an end unclaimed or at its one owner; a check
+-- goes nowhere
+abbrev pub Goes : Tree → Images → Event → Answered → Type 0
+Goes t im (Write bus devfn register enables put) r =
+    (o : Out) × (r ≡ ended t (configuration true bus devfn register enables put) o) × Went t im (configuration true bus devfn register enables put) host host (eqb bus 0) o
+Goes t im (Read bus devfn register) r =
+    (o : Out) × (r ≡ ended t (configuration false bus devfn register 0 0) o) × Went t im (configuration false bus devfn register 0 0) host host (eqb bus 0) o
+Goes t im (Memory i direction a) r =
+    (o : Out) × (r ≡ ended t (addressed space.Memory direction a) o)
+    × (Silenced t im i (o .route .end) ⊎ Went t im (addressed space.Memory direction a) (startOf t i) i false o)
+Goes t im (Io i direction a) r =
+    (o : Out) × (r ≡ ended t (addressed space.Io direction a) o)
+    × (Silenced t im i (o .route .end) ⊎ Went t im (addressed space.Io direction a) (startOf t i) i false o)
+Goes t im Check r = Unit {0}
+
+-- an event that writes no register
+abbrev pub WritesNone : Event → Type 0
+WritesNone (Write bus devfn register enables put) = ⊥
+WritesNone (Read bus devfn register) = Unit {0}
+WritesNone (Memory initiator direction address) = Unit {0}
+WritesNone (Io initiator direction address) = Unit {0}
+WritesNone Check = Unit {0}
+
+unfoldable pub AllWriteNone : List Event → Type 0
+AllWriteNone [] = Unit {0}
+AllWriteNone (e ∷ es) = WritesNone e × AllWriteNone es
+
+-- the images after one event after another
+unfoldable pub afterAll : Tree → List Event → Images → Images
+afterAll t [] im = im
+afterAll t (e ∷ es) im = afterAll t es (runIn t im e .after)
+
+-- 01: 'A device with command bit 2 clear drives nothing': the initiator of an event is such a device
+abbrev pub MayNotDrive : Tree → Images → Event → Type 0
+MayNotDrive t im (Write bus devfn register enables put) = ⊥
+MayNotDrive t im (Read bus devfn register) = ⊥
+MayNotDrive t im (Memory i direction address) = (i < t .count) × (drives t im i ≡ false)
+MayNotDrive t im (Io i direction address) = (i < t .count) × (drives t im i ≡ false)
+MayNotDrive t im Check = ⊥

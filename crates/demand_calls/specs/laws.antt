@@ -1,0 +1,11 @@
+pub mod Refusing
+pub mod Sizing
+pub mod Checking
+pub mod Going
+pub mod Silent
+pub mod Later
+pub mod Decoded
+pub mod CRefusing
+pub mod CChecking
+pub mod CGoing
+pub mod CLater

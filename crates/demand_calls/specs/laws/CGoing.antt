@@ -1,0 +1,123 @@
+-- Demand 3 over the call `rack_run` from C.
+use mathlib.Core.Path.{_≡_, refl, sym, ap, _∙_}
+use mathlib.Core.List.{List}
+use Prim.Native.Nat.{ℕ, _+_, _^_, _≤_, _<_}
+use native.Mathlib.Omega.{arith}
+use lib.Dec.{eqb}
+use lib.ListN.{getD}
+use native.Mathlib.Nat.{le-refl}
+use Rattle.rack.specs.laws.Bools.{tested}
+use Rattle.rack.specs.laws.FirstLaws.{or-next, unless-none}
+use Rattle.rack.specs.definitions.Tree.{depth, greatestDepth}
+use Rattle.register_image.specs.definitions.Image.{Images}
+use Rattle.claim_laws.specs.definitions.Same.{SameButStatus}
+use Rattle.check_search.specs.declared.Report.the-variants.{Pass, Fault}
+use Rattle.file_record.specs.definitions.Number.{byteIn, dwordIn, qwordIn}
+use Rattle.file_record.specs.definitions.Events.{eventIn, eventBytes}
+use Rattle.file_record.specs.definitions.Load.{rackAlone}
+use Rattle.file_record.specs.laws.LoadLaws.{alone-accepted, alone-stored}
+use Rattle.event_run.specs.declared.Ending.{Ending}
+use Rattle.event_run.specs.declared.Ending.the-variants.{Data, Stored, Owner, Host, Unclaimed, Clash, Silent}
+use Rattle.event_run.specs.declared.Answer.the-variants.{Ended, Checked}
+use Rattle.event_run.specs.definitions.Answers.{Answered}
+use Rattle.call_table.specs.declared.Reply.{Reply}
+use Rattle.call_table.specs.declared.Reply.the-variants as reply
+use Rattle.call_table.specs.definitions.Call.{eventRefusal, ran, runIn, checkIn}
+use Rattle.call_numbers.specs.definitions.Numbers.{numbersOf, replyNumbers}
+use Rattle.muzgante.specs.definitions.Called.{Called, repliedCall, rackRun, rackCheck}
+use Rattle.demand_calls.specs.laws.Refusing.{accepts}
+use Rattle.demand_calls.specs.laws.Checking.{check-passes, event-no-clash}
+use Rattle.demand_calls.specs.definitions.Events.{Fits, replyNumber, Goes, crossings, startBus}
+use Rattle.demand_calls.specs.laws.Going.{event-goes, event-crossings}
+use Rattle.demand_calls.specs.laws.CRefusing.{run-refuses}
+use Rattle.demand_calls.specs.laws.CChecking.{answers, c-check-passed}
+use Rattle.demand_calls.specs.definitions.CCalls.{number}
+
+-- the fields of an event that is read from bytes fit their types
+pub event-fits : (b : List ℕ) → ((k : ℕ) → getD b k 0 < 256) → (o : ℕ) → Fits (eventIn b o)
+unfolding eventIn
+event-fits b bytes o =
+    tested (eqb (byteIn b o) 4) (λ q. rw q (omega (arith, bytes (o + 1))))
+    (λ q.
+    tested (eqb (byteIn b o) 5) (λ p. rw (q, p) (omega (arith, bytes (o + 1))))
+    (λ p.
+    tested (eqb (byteIn b o) 6) (λ r. rw (q, p, r) (qword-fits (o + 3)))
+    (λ r.
+    tested (eqb (byteIn b o) 7) (λ s. rw (q, p, r, s) (dword-fits (o + 3))) (λ s. rw (q, p, r, s) tt))))
+  where
+    dword-fits : (o : ℕ) → dwordIn b o < 2 ^ 32
+    dword-fits o = omega (arith, bytes o, bytes (o + 1), bytes (o + 2), bytes (o + 2 + 1))
+
+    qword-fits : (o : ℕ) → qwordIn b o < 2 ^ 64
+    qword-fits o = omega (arith, dword-fits o, dword-fits (o + 4))
+
+-- the first two numbers of a reply
+first : (r : Reply) → getD (replyNumbers r) 0 0 ≡ replyNumber r
+first (reply.Refused n) = refl
+first (reply.Answered a) = refl
+
+second : (r : Reply) → replyNumber r ≤ 6 → getD (replyNumbers r) 1 0 ≤ crossings r
+second (reply.Refused n) l = le-refl 0
+second (reply.Answered (Ended c e)) l = ending e
+  where
+    ending : (e : Ending) → getD (numbersOf (Ended c e)) 1 0 ≤ c
+    ending (Data v) = le-refl c
+    ending Stored = le-refl c
+    ending (Owner n r o) = le-refl c
+    ending (Host o) = le-refl c
+    ending (Unclaimed h o) = le-refl c
+    ending (Clash h x y) = le-refl c
+    ending Silent = omega arith
+second (reply.Answered (Checked Pass)) l = absurd (omega arith)
+second (reply.Answered (Checked (Fault bus space a driver x y))) l = absurd (omega arith)
+
+module _ (b event : List ℕ) (im : Images) where
+  -- what an accepted run hands back, and what it says
+  handed : rackRun b event im .code ≡ 0
+      → rackRun b event im ≡ repliedCall (runIn (rackAlone b .tree) im (eventIn event 0))
+  unfolding rackRun
+  handed c =
+      let s = run-refuses b event im .accepted c in
+      unless-none _ _ (or-next (rackAlone b .refusal) (eventBytes event) (s .0) ∙ s .1)
+
+  said : rackRun b event im .code ≡ 0
+      → number (rackRun b event im) ≡ replyNumber (runIn (rackAlone b .tree) im (eventIn event 0) .reply)
+  said c = ap number (handed c) ∙ first (runIn (rackAlone b .tree) im (eventIn event 0) .reply)
+
+  -- 'The crossings carried in its answer are at most the depth of the starting bus plus the greatest depth in the rack': the endings 1
+  -- to 6 carry them as their second number
+  pub c-run-crossings : rackRun b event im .code ≡ 0 → number (rackRun b event im) ≤ 6
+      → getD (rackRun b event im .numbers) 1 0
+      ≤ depth (rackAlone b .tree) (startBus (rackAlone b .tree) (eventIn event 0)) + greatestDepth (rackAlone b .tree)
+  c-run-crossings c l =
+      let t = rackAlone b .tree in
+      let a = runIn t im (eventIn event 0) .reply in
+      let m : replyNumber a ≤ 6 = omega (arith, said c) in
+      omega (arith, event-crossings t (λ ok. alone-stored b (run-refuses b event im .accepted c .0)) im (eventIn event 0), second a m, ap (λ (r : Called). getD (r .numbers) 1 0) (handed c))
+
+-- 'In a passed rack, with the registers it passed with, status bits aside'
+module _ (b event : List ℕ) (im im' : Images) (pass : number (rackCheck b im) ≡ 8) (same : SameButStatus (rackAlone b .tree) im im')
+    (bytes : (k : ℕ) → getD event k 0 < 256) where
+  passed : checkIn (rackAlone b .tree) im ≡ reply.Answered (Checked Pass)
+  passed =
+      let s = c-check-passed b im pass in
+      check-passes (rackAlone b .tree) im (alone-accepted b (s .0)) (s .1) (s .2)
+
+  -- 'every accepted configuration, memory or I/O access, whichever party starts it, is never driven, ends unclaimed, or ends at its one
+  -- owner'
+  pub c-run-goes : rackRun b event im' .code ≡ 0
+      → (r : Answered) × (rackRun b event im' ≡ repliedCall (ran r)) × Goes (rackAlone b .tree) im' (eventIn event 0) r
+  c-run-goes c =
+      let t = rackAlone b .tree in
+      let e = eventIn event 0 in
+      let s = run-refuses b event im' .accepted c in
+      let z = accepts t im' (eventRefusal t e) (alone-accepted b (s .0)) (s .2) (s .3) in
+      let g = event-goes t (λ ok. alone-stored b (s .0)) im im' passed same e (event-fits event bytes 0) z in
+      (g .0, handed b event im' c ∙ ap repliedCall (g .1), g .2)
+
+  -- 'and never in a clash'
+  pub c-run-no-clash : number (rackRun b event im') ≡ 6 → ⊥
+  c-run-no-clash n =
+      let c = answers (run-refuses b event im' .untouched) (λ z. omega arith) in
+      event-no-clash (rackAlone b .tree) (λ ok. alone-stored b (run-refuses b event im' .accepted c .0)) im im' passed same (eventIn event 0) (event-fits event bytes 0)
+      (sym (said b event im' c) ∙ n)

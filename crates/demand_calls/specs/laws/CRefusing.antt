@@ -1,0 +1,163 @@
+-- Demand 1 over the calls from C: in which order they refuse, when they accept, and that 'a refusal leaves every image untouched'.
+use mathlib.Core.Path.{_≡_, refl, sym, ap, _∙_}
+use mathlib.Core.Bool.{true, false}
+use mathlib.Core.List.{List}
+use Prim.Native.Nat.{ℕ}
+use lib.Dec.{eqb}
+use borrow.Author.Tests.{eqb-true, eqb-false}
+use Rattle.rack.specs.laws.Bools.{tested}
+use Rattle.rack.specs.definitions.First.{_when_, _or_, unless}
+use Rattle.rack.specs.laws.FirstLaws.{or-this, or-next, or-none, unless-number, unless-none}
+use Rattle.register_image.specs.definitions.Image.{Images}
+use Rattle.register_image.specs.definitions.Fixed.{lengthsWrong}
+use Rattle.register_image.specs.definitions.Reset.{resetImages}
+use Rattle.claim_agent.specs.declared.Ends.{Ends}
+use Rattle.claim_agent.specs.declared.Ends.the-variants.{Empty, FirstLast}
+use Rattle.claim_agent.specs.definitions.Ends.{windowEnds}
+use Rattle.check_search.specs.definitions.Check.{check}
+use Rattle.file_record.specs.definitions.Events.{eventIn, eventBytes}
+use Rattle.file_record.specs.definitions.Load.{rackAlone}
+use Rattle.file_record.specs.laws.LoadLaws.{alone-accepted}
+use Rattle.event_run.specs.declared.Answer.the-variants.{Checked}
+use Rattle.event_run.specs.definitions.Run.{eventRun}
+use Rattle.call_table.specs.declared.Reply.{Reply}
+use Rattle.call_table.specs.declared.Reply.the-variants.{Answered}
+use Rattle.call_table.specs.declared.EndsReply.{EndsReply}
+use Rattle.call_table.specs.definitions.Call.{refusalBy, windowRefusal, eventRefusal, endsReply, ran, runIn, checkIn, endsIn}
+use Rattle.call_numbers.specs.definitions.Numbers.{zeros, endsCode}
+use Rattle.muzgante.specs.definitions.Called.{Called, refusedCall, repliedCall, endsCall, rackRun, rackCheck, rackWindow, resetRefusal, rackReset}
+use Rattle.demand_calls.specs.laws.Refusing.{by-image, by-own, accepts, accepted}
+use Rattle.demand_calls.specs.definitions.CCalls.{InOrder}
+
+-- what such a call hands back
+unfoldable outcome : List ℕ → ℕ → Images → ℕ → Called → Called
+outcome b event im own a =
+    unless (rackAlone b .refusal or event) (unless (refusalBy (rackAlone b .tree) im own) a (λ n. refusedCall n im))
+    (λ n. refusedCall n im)
+
+module _ (b : List ℕ) (event : ℕ) (im : Images) (own : ℕ) (a : Called) where
+  of-bytes : {n : ℕ} → rackAlone b .refusal or event ≡ n → (n ≡ 0 → ⊥) → outcome b event im own a ≡ refusedCall n im
+  unfolding outcome
+  of-bytes e ne = unless-number _ _ (λ z. ne (sym e ∙ z)) ∙ ap (λ n. refusedCall n im) e
+
+  of-call : rackAlone b .refusal ≡ 0 → event ≡ 0 → {n : ℕ} → refusalBy (rackAlone b .tree) im own ≡ n → (n ≡ 0 → ⊥)
+      → outcome b event im own a ≡ refusedCall n im
+  unfolding outcome
+  of-call z y e ne =
+      unless-none _ _ (or-next _ event z ∙ y) ∙ unless-number _ _ (λ x. ne (sym e ∙ x)) ∙ ap (λ n. refusedCall n im) e
+
+  of-none : rackAlone b .refusal ≡ 0 → event ≡ 0 → refusalBy (rackAlone b .tree) im own ≡ 0 → outcome b event im own a ≡ a
+  unfolding outcome
+  of-none z y x = unless-none _ _ (or-next _ event z ∙ y) ∙ unless-none _ _ x
+
+  -- accepted, or refused by some number
+  either-way : {P : Type 0}
+      → (rackAlone b .refusal ≡ 0 → event ≡ 0 → refusalBy (rackAlone b .tree) im own ≡ 0 → P)
+      → ((n : ℕ) → (n ≡ 0 → ⊥) → outcome b event im own a ≡ refusedCall n im → P) → P
+  either-way good bad =
+      let m = rackAlone b .refusal or event in
+      tested (eqb m 0)
+      (λ q.
+      let s = or-none (rackAlone b .refusal) event (eqb-true m 0 q) in
+      let n = refusalBy (rackAlone b .tree) im own in
+      tested (eqb n 0) (λ r. good (s .0) (s .1) (eqb-true n 0 r))
+      (λ r. let ne = eqb-false n 0 r in bad n ne (of-call (s .0) (s .1) refl ne)))
+      (λ q. let ne = eqb-false m 0 q in bad m ne (of-bytes refl ne))
+
+  in-order : a .code ≡ 0 → {r : Called} → r ≡ outcome b event im own a → InOrder b event im own a r
+  in-order ok e =
+      let t = rackAlone b .tree in
+      rw e (record {
+        by-rack = λ ne. of-bytes (or-this _ event ne) ne;
+        by-event = λ z ne. of-bytes (or-next _ event z) ne;
+        by-image = λ z y ne. of-call z y (by-image t im own (alone-accepted b z) ne) ne;
+        by-own = λ z y x ne. of-call z y (by-own t im own (alone-accepted b z) x) ne;
+        accepts = λ z y x w.
+            let s = of-none z y (accepts t im own (alone-accepted b z) x w) in
+            (s, ap (λ (r : Called). r .code) s ∙ ok);
+        accepted = λ c.
+            either-way (λ z y x. let s = accepted t im own x in (z, y, s .1, s .2))
+            (λ n ne s. absurd (ne (sym (ap (λ (r : Called). r .code) s) ∙ c)));
+        untouched = λ c.
+            either-way (λ z y x. absurd (c (ap (λ (r : Called). r .code) (of-none z y x) ∙ ok)))
+            (λ n ne s. s ∙ ap (λ (n : ℕ). refusedCall n im) (sym (ap (λ (r : Called). r .code) s)));
+      })
+
+-- what is made of a call's reply, refused or not
+made : {A : Type 0} (f : A → Called) (n : ℕ) (given : A) (refused : ℕ → A)
+    → f (unless n given refused) ≡ unless n (f given) (λ m. f (refused m))
+unfolding unless
+made f n given refused = tested (eqb n 0) (λ q. rw q) (λ q. rw q)
+
+-- rack_run, accepted: the event's answer and what it leaves
+module _ (b event : List ℕ) (im : Images) where
+  pub run-refuses : InOrder b (eventBytes event) im (eventRefusal (rackAlone b .tree) (eventIn event 0))
+      (repliedCall (ran (eventRun (rackAlone b .tree) im (eventIn event 0)))) (rackRun b event im)
+  unfolding rackRun outcome runIn
+  run-refuses =
+      in-order b (eventBytes event) im (eventRefusal (rackAlone b .tree) (eventIn event 0))
+      (repliedCall (ran (eventRun (rackAlone b .tree) im (eventIn event 0)))) refl
+      (ap (λ (a : Called). unless (rackAlone b .refusal or eventBytes event) a (λ n. refusedCall n im))
+      (made repliedCall (refusalBy (rackAlone b .tree) im (eventRefusal (rackAlone b .tree) (eventIn event 0))) _ _))
+
+module _ (b : List ℕ) (im : Images) where
+  nothing : (n : ℕ) → n ≡ n or 0
+  nothing n = tested (eqb n 0) (λ q. rw q (eqb-true n 0 q)) (λ q. rw q)
+
+  -- rack_check, accepted: what the check says
+  pub check-refuses : InOrder b 0 im 0
+      (repliedCall (record { reply = Answered (Checked (check (rackAlone b .tree) im)); after = im })) (rackCheck b im)
+  unfolding rackCheck outcome checkIn
+  check-refuses =
+      in-order b 0 im 0 (repliedCall (record { reply = Answered (Checked (check (rackAlone b .tree) im)); after = im })) refl
+      (ap (λ (n : ℕ). unless n (repliedCall (record { reply = checkIn (rackAlone b .tree) im; after = im })) (λ m. refusedCall m im))
+      (nothing (rackAlone b .refusal))
+      ∙ ap (λ (a : Called). unless (rackAlone b .refusal or 0) a (λ n. refusedCall n im))
+      (made (λ (r : Reply). repliedCall (record { reply = r; after = im })) (refusalBy (rackAlone b .tree) im 0) _ _))
+
+  -- 'A check changes no register'
+  pub check-keeps : rackCheck b im .after ≡ im
+  unfolding rackCheck unless
+  check-keeps = tested (eqb (rackAlone b .refusal) 0) (λ q. rw q) (λ q. rw q)
+
+  -- rack_window, accepted: both ends of the window or region
+  pub window-refuses : (i k : ℕ) → InOrder b 0 im (windowRefusal (rackAlone b .tree) i k)
+      (endsCall (endsReply (windowEnds (rackAlone b .tree) im i k)) im) (rackWindow b im i k)
+  unfolding rackWindow outcome endsIn
+  window-refuses i k =
+      in-order b 0 im (windowRefusal (rackAlone b .tree) i k) (endsCall (endsReply (windowEnds (rackAlone b .tree) im i k)) im)
+      (ends-code (windowEnds (rackAlone b .tree) im i k))
+      (ap (λ (n : ℕ). unless n (endsCall (endsIn (rackAlone b .tree) im i k) im) (λ m. refusedCall m im))
+      (nothing (rackAlone b .refusal))
+      ∙ ap (λ (a : Called). unless (rackAlone b .refusal or 0) a (λ n. refusedCall n im))
+      (made (λ (e : EndsReply). endsCall e im) (refusalBy (rackAlone b .tree) im (windowRefusal (rackAlone b .tree) i k)) _ _))
+    where
+      ends-code : (e : Ends) → endsCode (endsReply e) ≡ 0
+      ends-code Empty = refl
+      ends-code (FirstLast first last) = refl
+
+  pub window-keeps : (i k : ℕ) → rackWindow b im i k .after ≡ im
+  unfolding rackWindow unless
+  window-keeps i k = tested (eqb (rackAlone b .refusal) 0) (λ q. rw q) (λ q. rw q)
+
+  -- rack_reset: 1 to 10 of the rack's bytes, then 11, and 12 never: the images are only now filled
+  pub reset-by-rack : (rackAlone b .refusal ≡ 0 → ⊥) → rackReset b im ≡ refusedCall (rackAlone b .refusal) im
+  unfolding rackReset
+  reset-by-rack ne =
+      let e = or-this (rackAlone b .refusal) (11 when lengthsWrong (rackAlone b .tree) im) ne in
+      unless-number _ _ (λ z. ne (sym e ∙ z)) ∙ ap (λ n. refusedCall n im) e
+
+  pub reset-by-length : rackAlone b .refusal ≡ 0 → lengthsWrong (rackAlone b .tree) im ≡ true → rackReset b im ≡ refusedCall 11 im
+  unfolding rackReset unless
+  reset-by-length z w = rw (z, w)
+
+  pub reset-accepts : rackAlone b .refusal ≡ 0 → lengthsWrong (rackAlone b .tree) im ≡ false
+      → rackReset b im ≡ record { code = 0; numbers = zeros; after = resetImages (rackAlone b .tree) im }
+  unfolding rackReset unless
+  reset-accepts z w = rw (z, w)
+
+  -- and a refused one writes nothing
+  pub reset-untouched : (rackReset b im .code ≡ 0 → ⊥) → rackReset b im .after ≡ im
+  unfolding rackReset unless
+  reset-untouched ne =
+      tested (eqb (resetRefusal b im) 0) (λ q. absurd (ne (rw q))) (λ q. rw q)

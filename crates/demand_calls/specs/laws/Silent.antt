@@ -1,0 +1,93 @@
+-- An answer is silent only where the event's initiator is a device with command bit 2 clear. The falling number of a route, which ends
+-- like that where it is spent, is never spent, so it shows in no answer.
+use mathlib.Core.Path.{_≡_, refl, sym, ap, _∙_}
+use mathlib.Core.Bool.{Bool, true, false, true≢false}
+use mathlib.Core.Logic.{inl, inr}
+use Prim.Native.Nat.{ℕ, _<_}
+use native.Mathlib.Omega.{arith}
+use lib.Dec.{eqb}
+use borrow.Author.Tests.{eqb-true, eqb-false}
+use Rattle.rack.specs.laws.Bools.{tested}
+use Rattle.rack.specs.definitions.Tree.{Tree}
+use Rattle.rack.specs.definitions.Stored.{Stored}
+use Rattle.rack.specs.definitions.Refusal.{rackRefusal}
+use Rattle.register_image.specs.definitions.Image.{Images}
+use Rattle.claim_agent.specs.declared.Space.the-variants as space
+use Rattle.route_bus.specs.declared.Access.{Access}
+use Rattle.route_bus.specs.declared.End.{End}
+use Rattle.route_bus.specs.declared.End.the-variants as end
+use Rattle.route_bus.specs.definitions.End.{Out}
+use Rattle.route.specs.definitions.Route.{drives, configure, access}
+use Rattle.route_laws.specs.laws.Silent.{isSilent, configure-driven, host-driven, access-driven}
+use Rattle.check_search.specs.declared.Report.{Report}
+use Rattle.check_search.specs.declared.Report.the-variants.{Pass, Fault}
+use Rattle.check_search.specs.definitions.Check.{check}
+use Rattle.demand_passed.specs.definitions.Way.{Initiator}
+use Rattle.file_record.specs.declared.Event.{Event}
+use Rattle.file_record.specs.declared.Event.the-variants.{Write, Read, Memory, Io, Check}
+use Rattle.file_record.specs.definitions.Events.{eventWrong}
+use Rattle.event_run.specs.declared.Answer.the-variants.{Checked}
+use Rattle.event_run.specs.definitions.Answers.{answerNumber}
+use Rattle.event_run.specs.definitions.Run.{configuration, addressed, registerOf, endedAt, ended, eventRun}
+use Rattle.call_table.specs.definitions.Call.{refusalBy, eventRefusal, runIn}
+use Rattle.demand_calls.specs.definitions.Events.{replyNumber, MayNotDrive}
+use Rattle.demand_calls.specs.laws.Refusing.{accepted, field-right, event-untouched, event-runs}
+use Rattle.demand_calls.specs.laws.Checking.{initiator}
+
+-- an answer is silent where its route is
+ended-silent : (t : Tree) (im : Images) (x : Access) (c : ℕ) (e : End) → answerNumber (endedAt t im x c e .answer) ≡ 7 → isSilent e ≡ true
+unfolding endedAt registerOf
+ended-silent t im x c (end.Node g) n = by (x .write) refl
+  where
+    by : (b : Bool) → x .write ≡ b → false ≡ true
+    by true w = let z : _≡_ {A = ℕ} 2 7 = rw w at n in absurd (omega arith)
+    by false w = let z : _≡_ {A = ℕ} 1 7 = rw w at n in absurd (omega arith)
+ended-silent t im x c (end.Owner g r o) n = absurd (omega arith)
+ended-silent t im x c (end.Host o) n = absurd (omega arith)
+ended-silent t im x c (end.Unclaimed k o) n = absurd (omega arith)
+ended-silent t im x c (end.Clash k y z) n = absurd (omega arith)
+ended-silent t im x c end.Silent n = refl
+
+module _ (t : Tree) (ok : rackRefusal t ≡ 0) (st : Stored t) (im : Images) where
+  -- of a route that is driven no answer is silent
+  driven-not : (x : Access) (o : Out) → isSilent (o .route .end) ≡ false → answerNumber (ended t x o .answer) ≡ 7 → ⊥
+  driven-not x o d n =
+      true≢false (sym (ended-silent t (o .after) x (o .route .crossings) (o .route .end) n) ∙ d)
+
+  started-silent : (x : Access) (i : ℕ) → Initiator t i → answerNumber (ended t x (access t im x i) .answer) ≡ 7
+      → (i < t .count) × (drives t im i ≡ false)
+  started-silent x i (inl e) n =
+      absurd
+      (driven-not x (access t im x i) (ap (λ (k : ℕ). isSilent (access t im x k .route .end)) e ∙ host-driven t ok x st im) n)
+  started-silent x i (inr d) n =
+      tested (drives t im i) (λ q. absurd (driven-not x (access t im x i) (access-driven t ok x st im i (d .0) q) n)) (λ q. (d .0, q))
+
+  run-silent : (e : Event) → eventWrong t e ≡ false → answerNumber (eventRun t im e .answer) ≡ 7 → MayNotDrive t im e
+  unfolding eventRun eventWrong
+  run-silent (Write bus devfn register enables put) w n =
+      let x = configuration true bus devfn register enables put in
+      driven-not x (configure t im x) (configure-driven t ok x st im) n
+  run-silent (Read bus devfn register) w n =
+      let x = configuration false bus devfn register 0 0 in driven-not x (configure t im x) (configure-driven t ok x st im) n
+  run-silent (Memory i direction a) w n =
+      started-silent (addressed space.Memory direction a) i (initiator t i direction w) n
+  run-silent (Io i direction a) w n = started-silent (addressed space.Io direction a) i (initiator t i direction w) n
+  run-silent Check w n = report (check t im) n
+    where
+      report : (r : Report) → answerNumber (Checked r) ≡ 7 → ⊥
+      report Pass n = omega arith
+      report (Fault b s v d x y) n = omega arith
+
+module _ (t : Tree) (stored : rackRefusal t ≡ 0 → Stored t) (im : Images) where
+  -- 7 is the number of a silent answer
+  pub event-silent : (e : Event) → replyNumber (runIn t im e .reply) ≡ 7 → MayNotDrive t im e
+  event-silent e n =
+      tested (eqb (refusalBy t im (eventRefusal t e)) 0)
+      (λ q.
+      let z = eqb-true (refusalBy t im (eventRefusal t e)) 0 q in
+      let a = accepted t im (eventRefusal t e) z in
+      run-silent t (a .0) (stored (a .0)) im e (field-right (a .2)) (rw (event-runs t im e z) at n))
+      (λ q.
+      let ne = eqb-false (refusalBy t im (eventRefusal t e)) 0 q in
+      let z : _≡_ {A = ℕ} 0 7 = rw (event-untouched t im e ne) at n in
+      absurd (omega arith))

@@ -1,0 +1,64 @@
+-- Every row of the table holds.
+use mathlib.Core.Path.{_≡_, refl}
+use mathlib.Core.Bool.{true}
+use Rattle.rack.specs.definitions.Count.{countOf, someFrom}
+use Rattle.register_header.specs.definitions.Mask.{writeMask, clearMask, regionWrite, regionReset, resetByte}
+use Rattle.register_header.specs.definitions.Register.{readRegister, writeByte, writeDword, writeRegister}
+use Rattle.register_header.specs.definitions.Sizing.{readBack, sizePart}
+use Rattle.register_image.specs.definitions.Reset.{resetFrom}
+use Rattle.rack.specs.definitions.Tree.{placeOf, nodesFrom, bridgesFrom}
+use Rattle.register_image.specs.definitions.Image.{nodePart, view}
+use Rattle.claim_window.specs.definitions.Area.{areaOf}
+use Rattle.claim_window.specs.definitions.Area as area
+use Rattle.claim_window.specs.definitions.Cut.{cutAt, cutPast, cutIf, cutLow}
+use Rattle.claim_agent.specs.declared.Space.the-variants.{Memory}
+use Rattle.claim_agent.specs.definitions.Agent.{bridgeOf, deviceOf, agentOf}
+use Rattle.claim_agent.specs.definitions.Claim.{primaryClaims, secondaryClaims, deviceClaims, hostClaims, claimsOf, windowsUntil, regionsUntil, untilOf}
+use Rattle.claim_agent.specs.definitions.Claimants.{claimantsIn}
+use Rattle.claim_agent.specs.definitions.Ends.{endsOf, windowIn}
+use Rattle.route_bus.specs.definitions.Look.{owned, claimed, look}
+use Rattle.route_bus.specs.definitions.Cross.{turnsType0}
+use Rattle.check_search.specs.declared.Report.the-variants.{Pass, Fault}
+use Rattle.check_search.specs.definitions.Check.{firstIn, shown, atValue, check}
+use Rattle.check_search.specs.laws.Stretch.{untilAll}
+use Rattle.check_search.specs.laws.Swept.{decoded, sweepBy, firstBy, onBusBy, checkBy, checked}
+use Rattle.claim_window.specs.definitions.Window.{windowsOf}
+use Rattle.claim_window.specs.definitions.Inside.{insideMemory, insideIo, memoryUntil, ioUntil}
+use Rattle.demand_examples.specs.definitions.Rows.{holds, all, rows, rackOf, imagesOf, three, two}
+use Rattle.rack.specs.definitions.First.{first, firstFrom}
+use Rattle.rack.specs.definitions.Refusal.{tooMany, badParent, highDevice, takenDevice, badRegion, nodeRefusal, rackRefusal}
+use Rattle.register_image.specs.definitions.Fixed.{lengthsWrong, byteWrong, imageRefusal}
+use Rattle.print_line.specs.definitions.Line.{reportFields, spaced}
+use Rattle.print_line.specs.definitions.Text.{hexOf, decimalOf, decimalUpTo}
+use Rattle.print_line.specs.laws.Words.{codesOf}
+
+-- the check is a search of every address: what the sweep finds in at most 40 stretches is what it finds (`checked`)
+three-faults : check (rackOf three) (imagesOf three) ≡ Fault 0 Memory 0x90000000 2 0 1
+unfolding countOf placeOf resetFrom resetByte regionReset nodePart view nodesFrom bridgesFrom windowsOf areaOf area.holds insideMemory insideIo memoryUntil ioUntil cutAt cutPast cutIf cutLow bridgeOf deviceOf agentOf primaryClaims secondaryClaims deviceClaims hostClaims claimsOf windowsUntil regionsUntil untilOf claimantsIn firstIn shown atValue untilAll decoded sweepBy firstBy onBusBy checkBy
+three-faults = checked 40 _ _ _ refl
+
+two-pass : check (rackOf two) (imagesOf two) ≡ Pass
+unfolding countOf placeOf resetFrom resetByte regionReset nodePart view nodesFrom bridgesFrom windowsOf areaOf area.holds insideMemory insideIo memoryUntil ioUntil cutAt cutPast cutIf cutLow bridgeOf deviceOf agentOf primaryClaims secondaryClaims deviceClaims hostClaims claimsOf windowsUntil regionsUntil untilOf claimantsIn firstIn shown atValue untilAll decoded sweepBy firstBy onBusBy checkBy
+two-pass = checked 40 _ _ _ refl
+
+-- both racks are accepted
+three-rack : rackRefusal (rackOf three) ≡ 0
+unfolding firstFrom first tooMany badParent highDevice takenDevice badRegion nodeRefusal someFrom countOf
+three-rack = refl
+
+three-images : imageRefusal (rackOf three) (imagesOf three) ≡ 0
+unfolding lengthsWrong byteWrong imageRefusal someFrom countOf placeOf resetFrom resetByte regionReset regionWrite writeMask clearMask nodePart view
+three-images = refl
+
+two-rack : rackRefusal (rackOf two) ≡ 0
+unfolding firstFrom first tooMany badParent highDevice takenDevice badRegion nodeRefusal someFrom countOf
+two-rack = refl
+
+two-images : imageRefusal (rackOf two) (imagesOf two) ≡ 0
+unfolding lengthsWrong byteWrong imageRefusal someFrom countOf placeOf resetFrom resetByte regionReset regionWrite writeMask clearMask nodePart view
+two-images = refl
+
+-- every row holds
+pub table : all rows ≡ true
+unfolding reportFields hexOf decimalOf decimalUpTo codesOf endsOf windowIn resetFrom resetByte regionReset regionWrite writeMask clearMask readRegister writeByte writeDword writeRegister readBack sizePart windowsOf insideIo nodesFrom nodePart view bridgeOf agentOf primaryClaims hostClaims claimsOf claimantsIn owned claimed look turnsType0 placeOf countOf spaced
+table = rw (three-faults, two-pass, three-rack, three-images, two-rack, two-images) refl

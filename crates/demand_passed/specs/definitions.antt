@@ -1,0 +1,3 @@
+pub mod FirstFault
+pub mod OneClaimant
+pub mod Way

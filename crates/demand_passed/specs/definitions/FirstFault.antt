@@ -1,0 +1,53 @@
+-- What a check shows: the first clash in document 01's order, and that all before it is clear.
+use mathlib.Core.Path.{_≡_}
+use mathlib.Core.List.{List, [], _∷_, _++_}
+use Prim.Native.Nat.{ℕ, _≤_, _<_}
+use lib.ListN.{length}
+use Rattle.rack.specs.definitions.Tree.{Tree, buses}
+use Rattle.register_image.specs.definitions.Image.{Images}
+use Rattle.claim_agent.specs.declared.Space.{Space}
+use Rattle.claim_agent.specs.declared.Space.the-variants.{Memory, Io, Configuration}
+use Rattle.claim_agent.specs.definitions.Space.{lastOf}
+use Rattle.claim_agent.specs.definitions.Claimants.{claimants}
+use Rattle.check_search.specs.definitions.Check.{driversOf, firstOf}
+
+-- every member of a list
+unfoldable pub Each : {A : Type 0} → (A → Type 0) → List A → Type 0
+Each P [] = Unit {0}
+Each P (x ∷ xs) = P x × Each P xs
+
+-- x is the first member of a list for which Q does not speak: Q holds of all before it
+pub record FirstOf {A : Type 0} (Q : A → Type 0) (l : List A) (x : A) : Type 0 where
+  pub before : List A
+  pub after : List A
+  pub split : l ≡ before ++ (x ∷ after)
+  pub clear : Each Q before
+
+-- the kinds of access in the order in which a bus is checked
+abbrev pub spaces : List Space
+spaces = Configuration ∷ Memory ∷ Io ∷ []
+
+module _ (t : Tree) (im : Images) where
+  -- at most one claimant: for a driver, for all drivers of every value of a space, and for all spaces of a bus
+  abbrev pub Clear : ℕ → Space → ℕ → ℕ → Type 0
+  Clear bus space a driver = length (claimants t im space bus driver a) ≤ 1
+
+  abbrev pub ClearAt : ℕ → Space → ℕ → Type 0
+  ClearAt bus space a = Each (Clear bus space a) (driversOf t bus space)
+
+  abbrev pub ClearIn : ℕ → Space → Type 0
+  ClearIn bus space = (a : ℕ) → firstOf space ≤ a → a ≤ lastOf space → ClearAt bus space a
+
+  abbrev pub ClearOn : ℕ → Type 0
+  ClearOn bus = Each (ClearIn bus) spaces
+
+-- what a check shows: the first bus, there the first kind, the lowest value and the first driver with two claimants, and the
+-- first two of them; whatever comes before has at most one
+pub record FirstFault (t : Tree) (im : Images) (bus : ℕ) (space : Space) (a driver x y : ℕ) : Type 0 where
+  pub bus-first : FirstOf (ClearOn t im) (buses t) bus
+  pub space-first : FirstOf (ClearIn t im bus) spaces space
+  pub from-first : firstOf space ≤ a
+  pub to-last : a ≤ lastOf space
+  pub lower : (b : ℕ) → firstOf space ≤ b → b < a → ClearAt t im bus space b
+  pub driver-first : FirstOf (Clear t im bus space a) (driversOf t bus space) driver
+  pub two : (rest : List ℕ) × (claimants t im space bus driver a ≡ x ∷ (y ∷ rest))

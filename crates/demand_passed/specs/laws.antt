@@ -1,0 +1,4 @@
+pub mod Firsts
+pub mod Clear
+pub mod Ways
+pub mod PassedRack

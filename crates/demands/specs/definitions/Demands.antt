@@ -1,0 +1,238 @@
+-- The three demands in the person's own words, and what is proved of each. The proofs are in specs/laws/Proved.antt.
+use mathlib.Core.Path.{_≡_}
+use mathlib.Core.Bool.{Bool, true, false, cond}
+use mathlib.Core.List.{List, [], _∷_}
+use Prim.Native.Nat.{ℕ, _+_, _^_, _≤_, _<_}
+use lib.Dec.{eqb}
+use lib.ListN.{length, getD}
+use Rattle.rack.specs.declared.Rack.{Rack}
+use Rattle.rack.specs.definitions.Node.{regionIn}
+use Rattle.rack.specs.definitions.Tree.{Tree, tree, depth, greatestDepth}
+use Rattle.rack.specs.definitions.Refusal.{rackRefusal, FirstFaultyNode}
+use Rattle.register_header.specs.definitions.Register.{readRegister}
+use Rattle.register_image.specs.definitions.Image.{Images, view, writeNode}
+use Rattle.register_image.specs.definitions.Fixed.{imageRefusal, lengthsWrong}
+use Rattle.register_image.specs.definitions.Reset.{resetImages}
+use Rattle.claim_agent.specs.declared.Space.{Space}
+use Rattle.claim_agent.specs.definitions.Space.{spaceNumber}
+use Rattle.claim_agent.specs.definitions.Ends.{windowEnds}
+use Rattle.claim_laws.specs.definitions.Same.{SameButStatus}
+use Rattle.check_search.specs.declared.Report.the-variants.{Pass, Fault}
+use Rattle.check_search.specs.definitions.Check.{check}
+use Rattle.file_record.specs.declared.Class.{Class}
+use Rattle.file_record.specs.declared.Event.{Event}
+use Rattle.file_record.specs.definitions.Events.{eventIn, eventBytes}
+use Rattle.file_record.specs.definitions.Load.{readIn, rackAlone}
+use Rattle.file_laws.specs.definitions.Records.{FirstFaulty, Faultless}
+use Rattle.event_run.specs.declared.Answer.the-variants.{Checked}
+use Rattle.event_run.specs.definitions.Answers.{Answered}
+use Rattle.event_run.specs.definitions.Run.{eventRun}
+use Rattle.call_table.specs.declared.Reply.the-variants as reply
+use Rattle.call_table.specs.declared.Number.the-variants as number
+use Rattle.call_table.specs.declared.EndsReply.the-variants as ends
+use Rattle.call_table.specs.definitions.Call as call
+use Rattle.call_table.specs.definitions.Call.{refusalBy, ran, runIn, checkIn}
+use Rattle.call_numbers.specs.definitions.Numbers.{eight, zeros}
+use Rattle.muzgante.specs.definitions.Called.{refusedCall, repliedCall, endsCall, rackRun, rackCheck, rackWindow, rackReset}
+use Rattle.demand_passed.specs.definitions.OneClaimant.{OneClaimant}
+use Rattle.demand_passed.specs.definitions.FirstFault.{FirstFault}
+use Rattle.demand_calls.specs.definitions.Events.{Fits, replyNumber, Goes, crossings, startBus, AllWriteNone, afterAll, MayNotDrive}
+use Rattle.demand_calls.specs.definitions.CCalls.{InOrder, AllCallsWriteNone, afterCalls}
+use Rattle.demand_calls.specs.definitions.CCalls as c
+
+-- 1. 'Refused, by the numbers in document 01, are an overlong or broken rack file, an impossible tree, a false register image and an
+-- event or call with a field out of range; a refusal leaves every image untouched. Every other input is accepted and gets its answer.'
+
+-- the bytes of a rack file, or those of the rack of a C call; `known` are the classes of records that may be read
+pub record Bytes (known : Class → Bool) (b : List ℕ) : Type 0 where
+  pub overlong : 65536 < length b → (readIn known b .refusal ≡ 1) × (readIn known b .offset ≡ 65536)
+  pub empty : length b ≡ 0 → (readIn known b .refusal ≡ 4) × (readIn known b .offset ≡ 0)
+  -- of all others number n is given at offset o exactly where n is the first that applies at the first faulty record, which is at o
+  pub refused : length b ≤ 65536 → (length b ≡ 0 → ⊥) → (readIn known b .refusal ≡ 0 → ⊥)
+      → FirstFaulty known b (readIn known b .refusal) (readIn known b .offset)
+  pub refuses : length b ≤ 65536 → (length b ≡ 0 → ⊥) → (n o : ℕ) → FirstFaulty known b n o
+      → (readIn known b .refusal ≡ n) × (readIn known b .offset ≡ o)
+  -- and they are accepted exactly where no record has a fault
+  pub accepts : length b ≤ 65536 → (length b ≡ 0 → ⊥) → Faultless known b → readIn known b .refusal ≡ 0
+  pub accepted : readIn known b .refusal ≡ 0 → Faultless known b
+
+-- a decoded rack: 6 to 10
+pub record Nodes (t : Tree) : Type 0 where
+  pub refused : (rackRefusal t ≡ 0 → ⊥) → FirstFaultyNode t (rackRefusal t)
+  pub refuses : {n : ℕ} → FirstFaultyNode t n → rackRefusal t ≡ n
+
+-- a call over a decoded rack; `own` is its number for what it is given, 0 where that is right
+pub record Order (t : Tree) (im : Images) (own : ℕ) : Type 0 where
+  pub by-rack : (rackRefusal t ≡ 0 → ⊥) → refusalBy t im own ≡ rackRefusal t
+  pub by-image : rackRefusal t ≡ 0 → (imageRefusal t im ≡ 0 → ⊥) → refusalBy t im own ≡ imageRefusal t im
+  pub by-own : rackRefusal t ≡ 0 → imageRefusal t im ≡ 0 → refusalBy t im own ≡ own
+  pub accepted : refusalBy t im own ≡ 0 → (rackRefusal t ≡ 0) × (imageRefusal t im ≡ 0) × (own ≡ 0)
+
+-- each call over a decoded rack: what it gives where it is refused, and where it is not
+module _ (rack : Rack) (im : Images) where
+  pub record Read (i register : ℕ) : Type 0 where
+    pub refused : (refusalBy (tree rack) im (call.readRefusal (tree rack) i register) ≡ 0 → ⊥)
+        → call.readIn (tree rack) im i register ≡ number.Refused (refusalBy (tree rack) im (call.readRefusal (tree rack) i register))
+    pub answers : refusalBy (tree rack) im (call.readRefusal (tree rack) i register) ≡ 0
+        → call.readIn (tree rack) im i register ≡ number.Value (readRegister (view (tree rack) im i) register)
+
+  pub record Write (i register enables put : ℕ) : Type 0 where
+    pub refused : (refusalBy (tree rack) im (call.storeRefusal (tree rack) i register enables) ≡ 0 → ⊥)
+        → call.storedIn (tree rack) im i register enables put ≡ im
+    pub answers : refusalBy (tree rack) im (call.storeRefusal (tree rack) i register enables) ≡ 0
+        → call.storedIn (tree rack) im i register enables put ≡ writeNode (tree rack) im i register enables put
+
+  -- 01: 'The view shows an empty part'
+  pub record View (i : ℕ) : Type 0 where
+    pub refused : (refusalBy (tree rack) im (call.viewRefusal (tree rack) i) ≡ 0 → ⊥) → call.viewIn (tree rack) im i ≡ []
+    pub answers : refusalBy (tree rack) im (call.viewRefusal (tree rack) i) ≡ 0 → call.viewIn (tree rack) im i ≡ view (tree rack) im i
+
+  -- 01: 'A region has 2 to the e bytes', 'A kind 0 region has size 0'
+  pub record Size (i r : ℕ) : Type 0 where
+    pub refused : (refusalBy (tree rack) im (call.regionRefusal (tree rack) i r) ≡ 0 → ⊥)
+        → call.sizeIn (tree rack) im i r ≡ number.Refused (refusalBy (tree rack) im (call.regionRefusal (tree rack) i r))
+    pub answers : refusalBy (tree rack) im (call.regionRefusal (tree rack) i r) ≡ 0
+        → call.sizeIn (tree rack) im i r
+        ≡ number.Value (cond (eqb (regionIn (tree rack .node i) r .kind) 0) 0 (2 ^ (regionIn (tree rack .node i) r .exponent)))
+
+  pub record Window (i k : ℕ) : Type 0 where
+    pub refused : (refusalBy (tree rack) im (call.windowRefusal (tree rack) i k) ≡ 0 → ⊥)
+        → call.endsIn (tree rack) im i k ≡ ends.Refused (refusalBy (tree rack) im (call.windowRefusal (tree rack) i k))
+    pub answers : refusalBy (tree rack) im (call.windowRefusal (tree rack) i k) ≡ 0
+        → call.endsIn (tree rack) im i k ≡ call.endsReply (windowEnds (tree rack) im i k)
+
+  pub record Run (e : Event) : Type 0 where
+    pub refused : (refusalBy (tree rack) im (call.eventRefusal (tree rack) e) ≡ 0 → ⊥)
+        → runIn (tree rack) im e
+        ≡ record { reply = reply.Refused (refusalBy (tree rack) im (call.eventRefusal (tree rack) e)); after = im }
+    pub answers : refusalBy (tree rack) im (call.eventRefusal (tree rack) e) ≡ 0
+        → runIn (tree rack) im e ≡ ran (eventRun (tree rack) im e)
+
+  pub record Check : Type 0 where
+    pub refused : (refusalBy (tree rack) im 0 ≡ 0 → ⊥) → checkIn (tree rack) im ≡ reply.Refused (refusalBy (tree rack) im 0)
+    pub answers : refusalBy (tree rack) im 0 ≡ 0 → checkIn (tree rack) im ≡ reply.Answered (Checked (check (tree rack) im))
+
+-- rack_reset from C, which refuses 1 to 10 and 11
+pub record Reset (b : List ℕ) (im : Images) : Type 0 where
+  pub by-rack : (rackAlone b .refusal ≡ 0 → ⊥) → rackReset b im ≡ refusedCall (rackAlone b .refusal) im
+  pub by-length : rackAlone b .refusal ≡ 0 → lengthsWrong (rackAlone b .tree) im ≡ true → rackReset b im ≡ refusedCall 11 im
+  pub answers : rackAlone b .refusal ≡ 0 → lengthsWrong (rackAlone b .tree) im ≡ false
+      → rackReset b im ≡ record { code = 0; numbers = zeros; after = resetImages (rackAlone b .tree) im }
+
+pub record Demand1 : Type 0 where
+  pub bytes : (known : Class → Bool) (b : List ℕ) → Bytes known b
+  pub nodes : (t : Tree) → Nodes t
+  pub order : (t : Tree) (im : Images) (own : ℕ) → Order t im own
+  pub reads : (rack : Rack) (im : Images) (i register : ℕ) → Read rack im i register
+  pub writes : (rack : Rack) (im : Images) (i register enables put : ℕ) → Write rack im i register enables put
+  pub views : (rack : Rack) (im : Images) (i : ℕ) → View rack im i
+  pub sizes : (rack : Rack) (im : Images) (i r : ℕ) → Size rack im i r
+  pub windows : (rack : Rack) (im : Images) (i k : ℕ) → Window rack im i k
+  pub runs : (rack : Rack) (im : Images) (e : Event) → Run rack im e
+  pub checks : (rack : Rack) (im : Images) → Check rack im
+  pub c-runs : (b event : List ℕ) (im : Images)
+      → InOrder b (eventBytes event) im (call.eventRefusal (rackAlone b .tree) (eventIn event 0))
+      (repliedCall (ran (eventRun (rackAlone b .tree) im (eventIn event 0)))) (rackRun b event im)
+  pub c-checks : (b : List ℕ) (im : Images)
+      → InOrder b 0 im 0 (repliedCall (record { reply = reply.Answered (Checked (check (rackAlone b .tree) im)); after = im }))
+      (rackCheck b im)
+  pub c-windows : (b : List ℕ) (im : Images) (i k : ℕ)
+      → InOrder b 0 im (call.windowRefusal (rackAlone b .tree) i k)
+      (endsCall (call.endsReply (windowEnds (rackAlone b .tree) im i k)) im) (rackWindow b im i k)
+  pub c-reset : (b : List ℕ) (im : Images) → Reset b im
+
+-- 2. 'Register reads and writes, claims and routes, downstream and upstream, are those of the PCI-to-PCI Bridge Architecture
+-- Specification 1.2 as document 01 condenses it.'
+--
+-- Each contract is an equation between what a function gives, with both images at exit, and a definition:
+--
+--   register_header  register::read_register        Register.readRegister
+--                    register::write_register       Register.writeRegister
+--                    status::set_status             Register.setStatus
+--   register_image   image::view                    Image.view
+--                    image::write_node              Image.writeNode
+--                    image::status_node             Image.statusNode
+--                    reset::reset_images            Reset.resetImages
+--                    sizing::size_region            Sizing.sizeRegion
+--   claim_window     decode::windows_of             Window.windowsOf
+--                    region::area_of                Area.areaOf
+--   claim_agent      Agent::claims                  Claim.claimsOf
+--   claim_bus        decode::agent_at               Agent.agentOf
+--                    bus::claimants_of              Claimants.claimants
+--                    ends::window_ends              Ends.windowEnds
+--   route_bus        look::look_on                  Look.look
+--   route_bridge     crossed_by                     Cross.crossed
+--   route            route::route_configuration     Route.configure
+--                    route::route_access            Route.access
+--   check_sweep      buses::check_rack              Check.check
+--   file_load        load_file, load_alone          Load.fileIn, Load.rackAlone
+--   event_run        run::answer_event              Run.eventRun
+--   print_file       fill::fill                     Filling.partOf
+--   call_open        read_register, write_register  Call.readIn, Call.storedIn
+--                    view, size_region              Call.viewIn, Call.sizeIn
+--                    window_ends                    Call.endsIn
+--                    run_event, run_check           Call.runIn, Call.checkIn
+--   muzgante         rack_run, rack_check           Called.rackRun, Called.rackCheck
+--                    rack_window, rack_reset        Called.rackWindow, Called.rackReset
+
+-- 3. 'For every rack, whatever its registers hold, an accepted check passes exactly when the count of claimants is at most one on every
+-- bus, for each agent of that bus as driver and every memory and I/O address, and for the agent above it and each bus number 1 to 255.
+-- If it does not pass, it shows the clash, driver and two claimants that document 01 names first, and the count at that access is two or
+-- more. In a passed rack, with the registers it passed with, status bits aside, every accepted configuration, memory or I/O access,
+-- whichever party starts it, is never driven, ends unclaimed, or ends at its one owner, and never in a clash. The crossings carried in
+-- its answer are at most the depth of the starting bus plus the greatest depth in the rack.'
+
+-- over the calls on a decoded rack, run_check and run_event
+pub record Checked3 (rack : Rack) (im : Images) : Type 0 where
+  pub passed : checkIn (tree rack) im ≡ reply.Answered (Checked Pass)
+      → (rackRefusal (tree rack) ≡ 0) × (imageRefusal (tree rack) im ≡ 0) × OneClaimant (tree rack) im
+  pub passes : rackRefusal (tree rack) ≡ 0 → imageRefusal (tree rack) im ≡ 0 → OneClaimant (tree rack) im
+      → checkIn (tree rack) im ≡ reply.Answered (Checked Pass)
+  pub faulted : (bus : ℕ) (space : Space) (a driver x y : ℕ)
+      → checkIn (tree rack) im ≡ reply.Answered (Checked (Fault bus space a driver x y))
+      → FirstFault (tree rack) im bus space a driver x y
+
+-- im are the registers that the rack passed with; `es` are events that write no register, as many as one likes
+pub record Passed3 (rack : Rack) (im : Images) : Type 0 where
+  pub goes : (im' : Images) → SameButStatus (tree rack) im im' → (e : Event) → Fits e
+      → refusalBy (tree rack) im' (call.eventRefusal (tree rack) e) ≡ 0
+      → (r : Answered) × (runIn (tree rack) im' e ≡ ran r) × Goes (tree rack) im' e r
+  pub no-clash : (im' : Images) → SameButStatus (tree rack) im im' → (e : Event) → Fits e
+      → replyNumber (runIn (tree rack) im' e .reply) ≡ 6 → ⊥
+  pub later : (es : List Event) → AllWriteNone es → SameButStatus (tree rack) im (afterAll (tree rack) es im)
+
+-- over the C calls rack_check and rack_run: 8 is the number of a pass, 9 of a fault, 6 of a clash
+pub record CChecked3 (b : List ℕ) (im : Images) : Type 0 where
+  pub passed : c.number (rackCheck b im) ≡ 8
+      → (rackAlone b .refusal ≡ 0) × (imageRefusal (rackAlone b .tree) im ≡ 0) × OneClaimant (rackAlone b .tree) im
+  pub passes : rackAlone b .refusal ≡ 0 → imageRefusal (rackAlone b .tree) im ≡ 0 → OneClaimant (rackAlone b .tree) im
+      → rackCheck b im ≡ record { code = 0; numbers = eight 8 []; after = im }
+  pub faulted : (bus : ℕ) (space : Space) (a driver x y : ℕ)
+      → rackCheck b im .numbers ≡ eight 9 (bus ∷ spaceNumber space ∷ a ∷ driver ∷ x ∷ y ∷ [])
+      → FirstFault (rackAlone b .tree) im bus space a driver x y
+  pub shows : rackCheck b im .code ≡ 0 → (c.number (rackCheck b im) ≡ 8 → ⊥)
+      → (bus : ℕ) × (space : Space) × (a : ℕ) × (driver : ℕ) × (x : ℕ) × (y : ℕ)
+      × (rackCheck b im .numbers ≡ eight 9 (bus ∷ spaceNumber space ∷ a ∷ driver ∷ x ∷ y ∷ []))
+
+-- `event` is any event's bytes
+pub record CPassed3 (b : List ℕ) (im : Images) : Type 0 where
+  pub goes : (im' : Images) → SameButStatus (rackAlone b .tree) im im' → (event : List ℕ) → ((k : ℕ) → getD event k 0 < 256)
+      → rackRun b event im' .code ≡ 0
+      → (r : Answered) × (rackRun b event im' ≡ repliedCall (ran r)) × Goes (rackAlone b .tree) im' (eventIn event 0) r
+  pub no-clash : (im' : Images) → SameButStatus (rackAlone b .tree) im im' → (event : List ℕ)
+      → ((k : ℕ) → getD event k 0 < 256) → c.number (rackRun b event im') ≡ 6 → ⊥
+  pub later : (events : List (List ℕ)) → AllCallsWriteNone events → SameButStatus (rackAlone b .tree) im (afterCalls b events im)
+
+pub record Demand3 : Type 0 where
+  pub checked : (rack : Rack) (im : Images) → Checked3 rack im
+  pub passed : (rack : Rack) (im : Images) → checkIn (tree rack) im ≡ reply.Answered (Checked Pass) → Passed3 rack im
+  pub crossed : (rack : Rack) (im : Images) (e : Event)
+      → crossings (runIn (tree rack) im e .reply) ≤ depth (tree rack) (startBus (tree rack) e) + greatestDepth (tree rack)
+  -- 'is never driven': an answer is silent, number 7, only where its initiator is a device with command bit 2 clear
+  pub silent : (rack : Rack) (im : Images) (e : Event) → replyNumber (runIn (tree rack) im e .reply) ≡ 7 → MayNotDrive (tree rack) im e
+  pub c-checked : (b : List ℕ) (im : Images) → CChecked3 b im
+  pub c-passed : (b : List ℕ) (im : Images) → c.number (rackCheck b im) ≡ 8 → CPassed3 b im
+  -- the endings 1 to 6 carry their crossings as their second number
+  pub c-crossed : (b event : List ℕ) (im : Images) → rackRun b event im .code ≡ 0 → c.number (rackRun b event im) ≤ 6
+      → getD (rackRun b event im .numbers) 1 0
+      ≤ depth (rackAlone b .tree) (startBus (rackAlone b .tree) (eventIn event 0)) + greatestDepth (rackAlone b .tree)

@@ -1,0 +1,90 @@
+// What an access comes to once its route is known: the register that it reached is read or written here.
+ghost use mathlib.Core.Path.{_≡_};
+ghost use Rattle.rack.specs.definitions.Table.{treeOf};
+ghost use Rattle.register_header.specs.definitions.Register.{readRegister};
+ghost use Rattle.register_image.specs.definitions.Image.{images, view};
+ghost use Rattle.event_run.specs.definitions.Answers.{answered};
+ghost use Rattle.event_run.specs.definitions.Run.{registerOf, endedAt};
+use crate::Answer;
+use crate::Ending;
+use rack::table::Table;
+use route_bus::Access;
+use route_bus::End;
+
+fn read_of<'a>(table: &Table, bridges: &'a [u8], devices: &'a [u8], g: u8, register: u8) -> u32
+    ensures { λ r. ⌜ r ≡ readRegister (view (treeOf (now (table .entry))) (images (now (bridges .entry)) (now (devices .entry))) g) register ⌝ }
+{
+    let part = register_image::image::view(table, bridges, devices, g);
+    register_header::register::read_register(part, register)
+}
+
+// A register of node g read or written.
+fn register_of(
+    table: &Table,
+    bridges: &mut [u8],
+    devices: &mut [u8],
+    x: Access,
+    crossings: u32,
+    g: u8,
+) -> Answer
+    ensures { λ r. ⌜ answered r (now (bridges .exit)) (now (devices .exit)) ≡ registerOf (treeOf (now (table .entry))) (images (now (bridges .entry)) (now (devices .entry))) x crossings g ⌝ }
+{
+    if x.write {
+        register_image::image::write_node(
+            table,
+            bridges,
+            devices,
+            g,
+            x.register,
+            x.enables,
+            x.data,
+        );
+        return Answer::Ended {
+            crossings,
+            ending: Ending::Stored,
+        };
+    }
+    let value = read_of(table, bridges, devices, g, x.register);
+    Answer::Ended {
+        crossings,
+        ending: Ending::Data { value },
+    }
+}
+
+// The answer to an access whose route ended there.
+pub(crate) fn ended_at(
+    table: &Table,
+    bridges: &mut [u8],
+    devices: &mut [u8],
+    x: Access,
+    crossings: u32,
+    end: End,
+) -> Answer
+    ensures { λ r. ⌜ answered r (now (bridges .exit)) (now (devices .exit)) ≡ endedAt (treeOf (now (table .entry))) (images (now (bridges .entry)) (now (devices .entry))) x crossings end ⌝ }
+{
+    let ending = match end {
+        End::Node(g) => return register_of(table, bridges, devices, x, crossings, g),
+        End::Owner {
+            node,
+            region,
+            offset,
+        } => Ending::Owner {
+            node,
+            region,
+            offset,
+        },
+        End::Host { offset } => Ending::Host { offset },
+        End::Unclaimed { holder, outcome } => Ending::Unclaimed { holder, outcome },
+        End::Clash {
+            holder,
+            first,
+            second,
+        } => Ending::Clash {
+            holder,
+            first,
+            second,
+        },
+        End::Silent => Ending::Silent,
+    };
+    Answer::Ended { crossings, ending }
+}

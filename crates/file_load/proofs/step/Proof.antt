@@ -1,0 +1,57 @@
+use Rattle.file_record.specs.laws.Steps.{node-told, event-told, host-left, shape-stops, node-goes, event-goes, host-goes}
+use borrow.Author.Needs.{needs}
+use Rattle.file_load.proofs.step.Statement.{statement}
+use Rattle.file_load.proofs.step.Tie as tie
+
+class-in-requires : tie.Need-class-in-requires
+class-in-requires c κs = search needs
+
+shape-fault-requires : tie.Need-shape-fault-requires
+shape-fault-requires c κs = search needs
+
+stopped-requires : tie.Need-stopped-requires
+stopped-requires c κs = search needs
+
+returns : tie.Need-returns
+returns c = search (shape-stops, needs)
+
+is-node-requires : tie.Need-is-node-requires
+is-node-requires c κs = search needs
+
+past-node-requires : tie.Need-past-node-requires
+past-node-requires c κs = search (node-told, needs)
+
+returns-2 : tie.Need-returns-2
+returns-2 c = search (node-goes, needs)
+
+is-event-requires : tie.Need-is-event-requires
+is-event-requires c κs = search needs
+
+past-event-requires : tie.Need-past-event-requires
+past-event-requires c κs = search (event-told, needs)
+
+returns-3 : tie.Need-returns-3
+returns-3 c = search (event-goes, needs)
+
+past-host-requires : tie.Need-past-host-requires
+past-host-requires c κs = search (host-left, needs)
+
+returns-4 : tie.Need-returns-4
+returns-4 c = search (host-goes, needs)
+
+pub step-spec : {M : Type 1} → statement M
+step-spec =
+    tie.close
+    (tie.spec
+    class-in-requires
+    shape-fault-requires
+    stopped-requires
+    returns
+    is-node-requires
+    past-node-requires
+    returns-2
+    is-event-requires
+    past-event-requires
+    returns-3
+    past-host-requires
+    returns-4)

@@ -1,0 +1,241 @@
+// The walk of a file from record to record, up to the first faulty one.
+ghost use mathlib.Core.Path.{_≡_};
+ghost use mathlib.Core.Bool.{true, false};
+ghost use Prim.Native.Nat.{_+_, _≤_, _<_};
+ghost use lib.ListN.{length};
+ghost use Rattle.rack.specs.definitions.Table.{treeOf};
+ghost use Rattle.rack.specs.definitions.First.{_or_};
+ghost use Rattle.rack.specs.definitions.Grow.{grown};
+ghost use Rattle.rack.specs.definitions.Refusal.{rackRefusal};
+ghost use Rattle.file_record.specs.definitions.Number.{byteIn};
+ghost use Rattle.file_record.specs.definitions.Record.{sizeOf, classIn, isHost, isNode, isEvent, isKnown, nodeIn};
+ghost use Rattle.file_record.specs.definitions.Load.{hostWrong, followsEvent, shapeFault, nodeFault, fieldFault, recordFault, taken, atStart, readFrom, readIn, fileIn, rackAlone};
+ghost use Rattle.file_record.specs.definitions.Loads.{readingOf, Steps, Loads};
+use file_record::Class;
+use file_record::Loaded;
+use file_record::Walk;
+use file_record::events::event_in;
+use file_record::events::event_wrong;
+use file_record::record::class_in;
+use file_record::record::cut_short;
+use file_record::record::host_in;
+use file_record::record::is_event;
+use file_record::record::is_host;
+use file_record::record::is_node;
+use file_record::record::is_rack;
+use file_record::record::no_kind;
+use file_record::record::node_in;
+use file_record::record::size_of;
+use rack::Range;
+use rack::grow::add_node;
+use rack::grow::no_table;
+use rack::table::Table;
+use rack::table::count_of;
+use rack_refusals::node_refusal;
+use register_header::register::byte_at;
+
+// 4
+fn host_wrong(c: Class, o: usize) -> bool
+    ensures { λ r. ⌜ r ≡ hostWrong c o ⌝ }
+{
+    let host = is_host(c);
+    if o == 0 { !host } else { host }
+}
+
+// 5
+fn follows_event(c: Class, events: usize) -> bool
+    ensures { λ r. ⌜ r ≡ followsEvent c events ⌝ }
+{
+    let rack = is_rack(c);
+    rack & !(events == 0)
+}
+
+// 2 to 5; `known` says whether events are.
+fn shape_fault(file: &[u8], known: bool, c: Class, o: usize, events: usize) -> u8
+    requires { ⌜ o ≤ 65536 ⌝ }
+    ensures { λ r. ⌜ r ≡ shapeFault (isKnown known) (now (file .entry)) c o events ⌝ }
+{
+    if no_kind(known, c) {
+        return 2;
+    }
+    if cut_short(file, o) {
+        return 3;
+    }
+    if host_wrong(c, o) {
+        return 4;
+    }
+    if follows_event(c, events) {
+        return 5;
+    }
+    0
+}
+
+// The offset after a record.
+fn past(file: &[u8], o: usize) -> usize
+    requires { ⌜ o ≤ 65536 ⌝ }
+    ensures { λ r. ⌜ r ≡ o + sizeOf (byteIn (now (file .entry)) o) ⌝ }
+{
+    o + size_of(byte_at(file, o))
+}
+
+// 6 to 10 of the node at an offset; 0 where there is none, and then the node stands after the others.
+fn take_node(file: &[u8], o: usize, table: &mut Table) -> u8
+    requires { ⌜ (o ≤ 65536) × (rackRefusal (treeOf (now table)) ≡ 0) ⌝ }
+    ensures { λ r. ⌜ (r ≡ nodeFault (now (file .entry)) o (treeOf (now (table .entry)))) × (r ≡ 0 → treeOf (now (table .exit)) ≡ grown (treeOf (now (table .entry))) (nodeIn (now (file .entry)) o)) ⌝ }
+{
+    let count = count_of(table);
+    if 96 <= count {
+        return 6;
+    }
+    let n = node_in(file, o);
+    add_node(table, n);
+    node_refusal(table, count as usize)
+}
+
+// A walk that stops at a faulty record.
+fn stopped(refusal: u8) -> Walk
+    ensures { λ r. ⌜ r .refusal ≡ refusal ⌝ }
+{
+    Walk {
+        refusal,
+        offset: 0,
+        events: 0,
+    }
+}
+
+fn past_node(file: &[u8], table: &mut Table, w: Walk) -> Walk
+    requires { ⌜ (w .offset ≤ 65536) × (isNode (classIn (now file) (w .offset)) ≡ true) × (rackRefusal (treeOf (now table)) ≡ 0) ⌝ }
+    ensures { λ r. ⌜ Steps r (now (table .exit)) (nodeFault (now (file .entry)) (w .offset) (treeOf (now (table .entry)))) (taken (now (file .entry)) (readingOf w (now (table .entry)))) ⌝ }
+{
+    let offset = past(file, w.offset);
+    let fault = take_node(file, w.offset, table);
+    if fault != 0 {
+        return stopped(fault);
+    }
+    Walk {
+        refusal: 0,
+        offset,
+        events: w.events,
+    }
+}
+
+// Where the events begin, once there is one at o.
+fn begin(events: usize, o: usize) -> usize
+    ensures { λ r. ⌜ r ≡ events or o ⌝ }
+{
+    if events == 0 { o } else { events }
+}
+
+fn past_event(file: &[u8], table: &Table, w: Walk) -> Walk
+    requires { ⌜ (w .offset ≤ 65536) × (isEvent (classIn (now file) (w .offset)) ≡ true) ⌝ }
+    ensures { λ r. ⌜ Steps r (now (table .entry)) (fieldFault (now (file .entry)) (w .offset) (treeOf (now (table .entry)))) (taken (now (file .entry)) (readingOf w (now (table .entry)))) ⌝ }
+{
+    if event_wrong(table, event_in(file, w.offset)) {
+        return stopped(13);
+    }
+    Walk {
+        refusal: 0,
+        offset: past(file, w.offset),
+        events: begin(w.events, w.offset),
+    }
+}
+
+fn past_host(file: &[u8], table: &mut Table, w: Walk) -> Walk
+    requires { ⌜ (w .offset ≤ 65536) × (isHost (classIn (now file) (w .offset)) ≡ true) ⌝ }
+    ensures { λ r. ⌜ Steps r (now (table .exit)) 0 (taken (now (file .entry)) (readingOf w (now (table .entry)))) ⌝ }
+{
+    *table = no_table(host_in(file, w.offset));
+    Walk {
+        refusal: 0,
+        offset: past(file, w.offset),
+        events: w.events,
+    }
+}
+
+// The fault of the record in front of which a walk stands; 0 where there is none, and then the walk stands after it.
+fn step(file: &[u8], known: bool, table: &mut Table, w: Walk) -> Walk
+    requires { ⌜ (w .offset ≤ 65536) × (rackRefusal (treeOf (now table)) ≡ 0) ⌝ }
+    ensures { λ r. ⌜ Steps r (now (table .exit)) (recordFault (isKnown known) (now (file .entry)) (readingOf w (now (table .entry)))) (taken (now (file .entry)) (readingOf w (now (table .entry)))) ⌝ }
+{
+    let class = class_in(file, w.offset);
+    let fault = shape_fault(file, known, class, w.offset, w.events);
+    if fault != 0 {
+        return stopped(fault);
+    }
+    if is_node(class) {
+        return past_node(file, table, w);
+    }
+    if is_event(class) {
+        return past_event(file, table, w);
+    }
+    past_host(file, table, w)
+}
+
+// In front of the first record.
+fn start() -> Walk
+    ensures { λ r. ⌜ (r .offset ≡ 0) × (r .events ≡ 0) ⌝ }
+{
+    Walk {
+        refusal: 0,
+        offset: 0,
+        events: 0,
+    }
+}
+
+// A refusal.
+fn refused_at(refusal: u8, offset: usize) -> Loaded
+    ensures { λ r. ⌜ (r .refusal ≡ refusal) × (r .offset ≡ offset) ⌝ }
+{
+    Loaded {
+        refusal,
+        offset,
+        table: [0u64; 195],
+    }
+}
+
+// Record by record, up to the first faulty one.
+fn read(file: &[u8], known: bool) -> Loaded
+    requires { ⌜ length (now file) ≤ 65536 ⌝ }
+    ensures { λ r. ⌜ Loads r (readFrom (length (now (file .entry))) (isKnown known) (now (file .entry)) atStart) ⌝ }
+{
+    let mut table = no_table(Range { first: 1, last: 0 });
+    let mut w = start();
+    while w.offset < file.len() {
+        let next = step(file, known, &mut table, w);
+        if next.refusal != 0 {
+            return refused_at(next.refusal, w.offset);
+        }
+        w = next;
+    }
+    Loaded {
+        refusal: 0,
+        offset: begin(w.events, w.offset),
+        table,
+    }
+}
+
+fn load(file: &[u8], known: bool) -> Loaded
+    ensures { λ r. ⌜ Loads r (readIn (isKnown known) (now (file .entry))) ⌝ }
+{
+    if 65536 < file.len() {
+        return refused_at(1, 65536);
+    }
+    if file.len() == 0 {
+        return refused_at(4, 0);
+    }
+    read(file, known)
+}
+
+// A whole file.
+pub fn load_file(file: &[u8]) -> Loaded
+    ensures { λ r. ⌜ Loads r (fileIn (now (file .entry))) ⌝ }
+{
+    load(file, true)
+}
+
+// The rack bytes of a C call: an event kind is 2.
+pub fn load_alone(file: &[u8]) -> Loaded
+    ensures { λ r. ⌜ Loads r (rackAlone (now (file .entry))) ⌝ }
+{
+    load(file, false)
+}

@@ -1,0 +1,53 @@
+-- A node and an event, after the code has read what their records hold.
+use mathlib.Core.Path.{_≡_}
+use mathlib.Core.List.{List, [], _∷_}
+use Prim.Native.Nat.{ℕ, _+_}
+use borrow.Author.Tests.{eq-eqb, ne-eqb}
+use Rattle.rack.specs.declared.Kind.{Kind}
+use Rattle.rack.specs.declared.Kind.the-variants.{Bridge, Device}
+use Rattle.rack.specs.declared.Region.{Region}
+use Rattle.rack.specs.declared.Node.{Node}
+use Rattle.rack.specs.definitions.Node.{noRegion}
+use Rattle.file_record.specs.declared.Event.the-variants.{Write, Read, Memory, Io, Check}
+use Rattle.file_record.specs.definitions.Number.{byteIn, wordIn, dwordIn, qwordIn}
+use Rattle.file_record.specs.definitions.Record.{regionFrom, nodeIn}
+use Rattle.file_record.specs.definitions.Events.{eventIn}
+
+abbrev made : Kind → ℕ → ℕ → ℕ → ℕ → List Region → Node
+made k p d v i regions =
+    record { kind = k; parent = p; device = d; «vendor_id» = v; «device_id» = i; regions = regions }
+
+module _ (b : List ℕ) (o : ℕ) {kind : ℕ} (ek : kind ≡ byteIn b o) where
+  module _ {p d v i : ℕ} (ep : p ≡ byteIn b (o + 1)) (ed : d ≡ byteIn b (o + 2)) (ev : v ≡ wordIn b (o + 3))
+      (ei : i ≡ wordIn b (o + 5)) where
+    pub bridge-in : kind ≡ 2 → made Bridge p d v i (noRegion ∷ noRegion ∷ noRegion ∷ []) ≡ nodeIn b o
+    unfolding nodeIn
+    bridge-in e = rw (← ek, eq-eqb kind 2 e, ep, ed, ev, ei)
+
+    pub device-in : {r s u : Region} → (kind ≡ 2 → ⊥) → r ≡ regionFrom b (o + 7) → s ≡ regionFrom b (o + 9) → u ≡ regionFrom b (o + 11)
+        → made Device p d v i (r ∷ s ∷ u ∷ []) ≡ nodeIn b o
+    unfolding nodeIn
+    device-in e er es eu = rw (← ek, ne-eqb kind 2 e, ep, ed, ev, ei, er, es, eu)
+
+  module _ {x y : ℕ} (ex : x ≡ byteIn b (o + 1)) (ey : y ≡ byteIn b (o + 2)) where
+    pub write-in : {z n put : ℕ} → kind ≡ 4 → z ≡ byteIn b (o + 3) → n ≡ byteIn b (o + 4) → put ≡ dwordIn b (o + 5)
+        → Write x y z n put ≡ eventIn b o
+    unfolding eventIn
+    write-in e ez en ep = rw (← ek, eq-eqb kind 4 e, ex, ey, ez, en, ep)
+
+    pub read-in : {z : ℕ} → (kind ≡ 4 → ⊥) → kind ≡ 5 → z ≡ byteIn b (o + 3) → Read x y z ≡ eventIn b o
+    unfolding eventIn
+    read-in w e ez = rw (← ek, ne-eqb kind 4 w, eq-eqb kind 5 e, ex, ey, ez)
+
+    pub memory-in : {a : ℕ} → (kind ≡ 4 → ⊥) → (kind ≡ 5 → ⊥) → kind ≡ 6 → a ≡ qwordIn b (o + 3) → Memory x y a ≡ eventIn b o
+    unfolding eventIn
+    memory-in w r e ea = rw (← ek, ne-eqb kind 4 w, ne-eqb kind 5 r, eq-eqb kind 6 e, ex, ey, ea)
+
+    pub io-in : {a : ℕ} → (kind ≡ 4 → ⊥) → (kind ≡ 5 → ⊥) → (kind ≡ 6 → ⊥) → kind ≡ 7 → a ≡ dwordIn b (o + 3)
+        → Io x y a ≡ eventIn b o
+    unfolding eventIn
+    io-in w r m e ea = rw (← ek, ne-eqb kind 4 w, ne-eqb kind 5 r, ne-eqb kind 6 m, eq-eqb kind 7 e, ex, ey, ea)
+
+  pub check-in : (kind ≡ 4 → ⊥) → (kind ≡ 5 → ⊥) → (kind ≡ 6 → ⊥) → (kind ≡ 7 → ⊥) → Check ≡ eventIn b o
+  unfolding eventIn
+  check-in w r m i = rw (← ek, ne-eqb kind 4 w, ne-eqb kind 5 r, ne-eqb kind 6 m, ne-eqb kind 7 i)

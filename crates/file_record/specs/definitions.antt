@@ -1,0 +1,5 @@
+pub mod Number
+pub mod Record
+pub mod Events
+pub mod Load
+pub mod Loads

@@ -1,0 +1,108 @@
+-- The reading of rack records, one after another: a rack file, or the rack bytes of a C call.
+use Prim.Native.Nat.{ℕ, zero, suc, _+_}
+use mathlib.Core.Bool.{Bool, true, false, not, _&&_, cond}
+use mathlib.Core.List.{List, [], _∷_}
+use lib.Dec.{leb, ltb, eqb}
+use lib.ListN.{length}
+use Rattle.rack.specs.definitions.First.{_when_, _or_, first}
+use Rattle.rack.specs.definitions.Tree.{Tree}
+use Rattle.rack.specs.definitions.Grow.{noTree, nodesWith, grown}
+use Rattle.rack.specs.definitions.Refusal.{nodeRefusal}
+use Rattle.rack.specs.declared.Range.{Range}
+use Rattle.file_record.specs.declared.Class.{Class}
+use Rattle.file_record.specs.definitions.Number.{byteIn}
+use Rattle.file_record.specs.definitions.Record.{sizeOf, classIn, isHost, isNode, isEvent, isRack, isKnown, cutShort, hostIn, nodeIn}
+use Rattle.file_record.specs.definitions.Events.{eventIn, eventWrong}
+
+-- no host memory: 'first above last means none'
+abbrev pub noMemory : Range
+noMemory = record { first = 1; last = 0 }
+
+-- what is known in front of a record: its offset, the offset at which the events begin (0 before the first), and the rack
+pub record Reading : Type 0 where
+  pub offset : ℕ
+  pub events : ℕ
+  pub tree : Tree
+
+abbrev pub atStart : Reading
+atStart = record { offset = 0; events = 0; tree = noTree noMemory }
+
+-- 4: 'the first is not a host, or a later one is'
+abbrev pub hostWrong : Class → ℕ → Bool
+hostWrong c o = cond (eqb o 0) (not (isHost c)) (isHost c)
+
+-- 5: 'A rack record follows an event'
+abbrev pub followsEvent : Class → ℕ → Bool
+followsEvent c events = isRack c && not (eqb events 0)
+
+-- 2 to 5, of a record's kind, length and place; `known` are the classes that may be read
+abbrev pub shapeFaults : (Class → Bool) → List ℕ → Class → ℕ → ℕ → List ℕ
+shapeFaults known b c o events =
+    2 when not (known c) ∷ 3 when cutShort b o ∷ 4 when hostWrong c o ∷ 5 when followsEvent c events ∷ []
+
+unfoldable pub shapeFault : (Class → Bool) → List ℕ → Class → ℕ → ℕ → ℕ
+shapeFault known b c o events = first (shapeFaults known b c o events)
+
+-- 6 to 10, of a node after those before it
+unfoldable pub nodeFault : List ℕ → ℕ → Tree → ℕ
+nodeFault b o t = nodeRefusal (nodesWith t (nodeIn b o)) (t .count)
+
+-- 13, of an event
+abbrev pub fieldFault : List ℕ → ℕ → Tree → ℕ
+fieldFault b o t = 13 when eventWrong t (eventIn b o)
+
+-- 01, 'Refused, in this order', of a record
+abbrev pub recordFaults : (Class → Bool) → List ℕ → Reading → List ℕ
+recordFaults known b s =
+    shapeFault known b (classIn b (s .offset)) (s .offset) (s .events)
+    ∷ nodeFault b (s .offset) (s .tree) when isNode (classIn b (s .offset))
+    ∷ fieldFault b (s .offset) (s .tree) when isEvent (classIn b (s .offset)) ∷ []
+
+-- the first number that applies, 0 where none does
+unfoldable pub recordFault : (Class → Bool) → List ℕ → Reading → ℕ
+recordFault known b s = first (recordFaults known b s)
+
+-- the record taken in
+unfoldable pub taken : List ℕ → Reading → Reading
+taken b s =
+    record {
+      offset = s .offset + sizeOf (byteIn b (s .offset));
+      events = cond (isEvent (classIn b (s .offset))) (s .events or s .offset) (s .events);
+      tree =
+          cond (isHost (classIn b (s .offset))) (noTree (hostIn b (s .offset)))
+          (cond (isNode (classIn b (s .offset))) (grown (s .tree) (nodeIn b (s .offset))) (s .tree));
+    }
+
+-- a refusal and its offset; or 0, the offset at which the events begin or, without events, the records end, and the rack
+pub record Loading : Type 0 where
+  pub refusal : ℕ
+  pub offset : ℕ
+  pub tree : Tree
+
+abbrev pub loaded : Reading → Loading
+loaded s = record { refusal = 0; offset = s .events or s .offset; tree = s .tree }
+
+abbrev pub refused : ℕ → ℕ → Loading
+refused n o = record { refusal = n; offset = o; tree = noTree noMemory }
+
+-- 01: 'A file stops at its first faulty record, with the record's offset': at most `left` records
+unfoldable pub readFrom : ℕ → (Class → Bool) → List ℕ → Reading → Loading
+readFrom zero known b s = loaded s
+readFrom (suc left) known b s =
+    cond (leb (length b) (s .offset)) (loaded s)
+    (cond (eqb (recordFault known b s) 0) (readFrom left known b (taken b s)) (refused (recordFault known b s) (s .offset)))
+
+-- 1: 'The file is longer than 65,536 bytes', at 65,536; 4: 'There is no record', at 0. A record has at least one byte, so there are no
+-- more of them than bytes
+unfoldable pub readIn : (Class → Bool) → List ℕ → Loading
+readIn known b =
+    cond (ltb 65536 (length b)) (refused 1 65536)
+    (cond (eqb (length b) 0) (refused 4 0) (readFrom (length b) known b atStart))
+
+-- a whole file
+abbrev pub fileIn : List ℕ → Loading
+fileIn b = readIn (isKnown true) b
+
+-- 01: 'The two C calls take the rack records as bytes: 1 to 10 as for a file, an event kind there being 2'
+abbrev pub rackAlone : List ℕ → Loading
+rackAlone b = readIn (isKnown false) b

@@ -1,0 +1,97 @@
+-- The records of a rack file. 01: 'One byte of kind, then a body'.
+use Prim.Native.Nat.{ℕ, _+_}
+use mathlib.Core.Bool.{Bool, true, false, _&&_, _||_, cond}
+use mathlib.Core.List.{List, [], _∷_}
+use lib.Dec.{ltb, eqb}
+use lib.ListN.{length, getD}
+use Rattle.rack.specs.declared.Kind.{Kind}
+use Rattle.rack.specs.declared.Kind.the-variants.{Bridge, Device}
+use Rattle.rack.specs.declared.Region.{Region}
+use Rattle.rack.specs.declared.Node.{Node}
+use Rattle.rack.specs.definitions.Node.{noRegion}
+use Rattle.rack.specs.declared.Range.{Range}
+use Rattle.file_record.specs.declared.Class.{Class}
+use Rattle.file_record.specs.declared.Class.the-variants as class
+use Rattle.file_record.specs.definitions.Number.{byteIn, wordIn, qwordIn}
+
+-- the class of a kind's records, and the length of their bodies
+pub record Form : Type 0 where
+  pub class : Class
+  pub body : ℕ
+
+abbrev pub form : Class → ℕ → Form
+form c n = record { class = c; body = n }
+
+abbrev pub noForm : Form
+noForm = form class.Unknown 0
+
+-- 01: '1 host (16 bytes)', '2 bridge (6)', '3 device (12)', '4 configuration write (8)', '5 configuration read (3)', '6 memory
+-- access (10)', '7 I/O access (6)', '8 check (0)'; 'Kinds 1 to 3 are rack records, 4 to 8 events'
+abbrev pub forms : List Form
+forms =
+    noForm ∷ form class.Host 16 ∷ form class.Node 6 ∷ form class.Node 12 ∷ form class.Event 8 ∷ form class.Event 3
+    ∷ form class.Event 10 ∷ form class.Event 6 ∷ form class.Event 0 ∷ []
+
+unfoldable pub formOf : ℕ → Form
+formOf kind = getD forms kind noForm
+
+-- a record's bytes, its kind too
+abbrev pub sizeOf : ℕ → ℕ
+sizeOf kind = formOf kind .body + 1
+
+abbrev pub classIn : List ℕ → ℕ → Class
+classIn b o = formOf (byteIn b o) .class
+
+abbrev pub isHost : Class → Bool
+isHost class.Unknown = false
+isHost class.Host = true
+isHost class.Node = false
+isHost class.Event = false
+
+abbrev pub isNode : Class → Bool
+isNode class.Unknown = false
+isNode class.Host = false
+isNode class.Node = true
+isNode class.Event = false
+
+abbrev pub isEvent : Class → Bool
+isEvent class.Unknown = false
+isEvent class.Host = false
+isEvent class.Node = false
+isEvent class.Event = true
+
+abbrev pub isRack : Class → Bool
+isRack c = isHost c || isNode c
+
+-- 2: 'The kind is not 1 to 8'; without events, in the rack records of a C call, 'an event kind there being 2'
+abbrev pub isKnown : Bool → Class → Bool
+isKnown events c = isRack c || (events && isEvent c)
+
+-- 3: 'The body is cut short'
+unfoldable pub cutShort : List ℕ → ℕ → Bool
+cutShort b o = ltb (length b) (o + sizeOf (byteIn b o))
+
+-- 01: '1 host (16 bytes): first and last address of host memory, 8 bytes each'
+abbrev pub hostIn : List ℕ → ℕ → Range
+hostIn b o = record { first = qwordIn b (o + 1); last = qwordIn b (o + 9) }
+
+-- 01: '3 device (12): the same six bytes, then three regions of kind (1) and exponent e (1)'
+abbrev pub regionFrom : List ℕ → ℕ → Region
+regionFrom b o = record { kind = byteIn b o; exponent = byteIn b (o + 1) }
+
+abbrev pub nodeOf : Kind → List ℕ → ℕ → Region → Region → Region → Node
+nodeOf k b o r s u =
+    record {
+      kind = k;
+      parent = byteIn b (o + 1);
+      device = byteIn b (o + 2);
+      «vendor_id» = wordIn b (o + 3);
+      «device_id» = wordIn b (o + 5);
+      regions = r ∷ s ∷ u ∷ [];
+    }
+
+-- 01: '2 bridge (6): parent, device number, vendor ID (2), device ID (2)'; a bridge has no regions
+unfoldable pub nodeIn : List ℕ → ℕ → Node
+nodeIn b o =
+    cond (eqb (byteIn b o) 2) (nodeOf Bridge b o noRegion noRegion noRegion)
+    (nodeOf Device b o (regionFrom b (o + 7)) (regionFrom b (o + 9)) (regionFrom b (o + 11)))

@@ -1,0 +1,5 @@
+pub mod RecordLaws
+pub mod Steps
+pub mod Turns
+pub mod LoadLaws
+pub mod LoadsLaws

@@ -1,0 +1,178 @@
+-- A rack that is read is accepted and stores what its nodes say, its file has at most 65,536 bytes, its events begin within
+-- the file, and its host memory is the first record's.
+use mathlib.Core.Path.{_≡_, refl}
+use mathlib.Core.Bool.{Bool, true, false}
+use mathlib.Core.List.{List}
+use Prim.Native.Nat.{ℕ, _+_, _≤_, _<_}
+use native.Mathlib.Omega.{arith}
+use lib.Dec.{ltb, eqb, lit<}
+use lib.ListN.{length}
+use mathlib.Core.Logic.{_⊎_, inl, inr, ⊎-elim}
+use borrow.Author.Tests.{not-false, ltb-true, ltb-false, eqb-true, eqb-false, eq-eqb, ne-eqb}
+use Rattle.rack.specs.laws.Bools.{tested}
+use Rattle.rack.specs.definitions.First.{_or_}
+use Rattle.rack.specs.definitions.Stored.{Stored}
+use Rattle.rack.specs.definitions.Grow.{grown}
+use Rattle.rack.specs.definitions.Refusal.{rackRefusal}
+use Rattle.rack_laws.specs.laws.First.{at, list-none-given}
+use Rattle.rack_laws.specs.laws.Stored.{StoredBy, by-stored}
+use Rattle.rack_laws.specs.laws.Grown.{none-accepted, grown-accepted, grown-stored}
+use Rattle.file_record.specs.declared.Class.{Class}
+use Rattle.file_record.specs.definitions.Number.{byteIn}
+use Rattle.file_record.specs.definitions.Record.{sizeOf, classIn, isHost, isNode, isEvent, isKnown, hostIn, nodeIn}
+use Rattle.file_record.specs.laws.RecordLaws.{host-size}
+use Rattle.file_record.specs.definitions.Load.{noMemory, Reading, nodeFault, recordFaults, recordFault, taken, readIn, fileIn, rackAlone}
+use Rattle.file_record.specs.laws.Steps.{shape-ends, shape-host}
+use Rattle.file_record.specs.laws.Turns.{read-over, read-empty, in-has}
+
+-- a record without a fault
+module _ (known : Class → Bool) (b : List ℕ) (s : Reading) where
+  none-applies : recordFault known b s ≡ 0 → (k : ℕ) → k < 3 → at (recordFaults known b s) k ≡ 0
+  unfolding recordFault
+  none-applies z = list-none-given (recordFaults known b s) z
+
+  fault-node : recordFault known b s ≡ 0 → isNode (classIn b (s .offset)) ≡ true → nodeFault b (s .offset) (s .tree) ≡ 0
+  fault-node z k = rw k at (none-applies z 1 (lit< tt))
+
+  -- ends within the file, and leaves an accepted rack
+  pub taken-inside : recordFault known b s ≡ 0 → taken b s .offset ≤ length b
+  unfolding taken
+  taken-inside z = shape-ends known b (classIn b (s .offset)) (s .offset) (s .events) (none-applies z 0 (lit< tt))
+
+  pub taken-accepted : rackRefusal (s .tree) ≡ 0 → recordFault known b s ≡ 0 → rackRefusal (taken b s .tree) ≡ 0
+  unfolding taken nodeFault
+  taken-accepted ok z =
+      tested (isHost (classIn b (s .offset))) (λ h. rw h (none-accepted (hostIn b (s .offset))))
+      (λ h.
+      tested (isNode (classIn b (s .offset))) (λ k. rw (h, k) (grown-accepted (s .tree) (nodeIn b (s .offset)) ok (fault-node z k)))
+      (λ k. rw (h, k) ok))
+
+  taken-stored : StoredBy (s .tree) → StoredBy (taken b s .tree)
+  unfolding taken
+  taken-stored p =
+      tested (isHost (classIn b (s .offset))) (λ h. rw h refl)
+      (λ h.
+      tested (isNode (classIn b (s .offset))) (λ k. rw (h, k) (grown-stored (s .tree) (nodeIn b (s .offset)) p)) (λ k. rw (h, k) p))
+
+  -- the first record is a host, and none after it is
+  first-host : recordFault known b s ≡ 0 → s .offset ≡ 0 → isHost (classIn b (s .offset)) ≡ true
+  first-host z e =
+      let h = shape-host known b (classIn b (s .offset)) (s .offset) (s .events) (none-applies z 0 (lit< tt)) in
+      not-false (isHost (classIn b (s .offset))) (rw (eq-eqb (s .offset) 0 e) at h)
+
+  later-host : recordFault known b s ≡ 0 → (s .offset ≡ 0 → ⊥) → isHost (classIn b (s .offset)) ≡ false
+  later-host z e =
+      let h = shape-host known b (classIn b (s .offset)) (s .offset) (s .events) (none-applies z 0 (lit< tt)) in
+      rw (ne-eqb (s .offset) 0 e) at h
+
+  -- so after it host memory is the first record's
+  taken-host : (0 < s .offset → s .tree .hostMemory ≡ hostIn b 0) → recordFault known b s ≡ 0
+      → taken b s .tree .hostMemory ≡ hostIn b 0
+  unfolding taken grown
+  taken-host p z =
+      tested (eqb (s .offset) 0)
+      (λ q. let e = eqb-true (s .offset) 0 q in rw (first-host z e, e))
+      (λ q.
+      let e = eqb-false (s .offset) 0 q in
+      let h = p (omega (arith, e)) in
+      tested (isNode (classIn b (s .offset))) (λ k. rw (later-host z e, k) h) (λ k. rw (later-host z e, k) h))
+
+  -- and the next record begins at 17 or later
+  taken-behind : (s .offset ≡ 0) ⊎ (17 ≤ s .offset) → recordFault known b s ≡ 0 → 17 ≤ taken b s .offset
+  unfolding taken
+  taken-behind p z =
+      ⊎-elim (λ e. omega (arith, host-size (byteIn b (s .offset)) (first-host z e))) (λ h. omega arith) p
+
+-- a reading within the file: the first record begins at 0, all others and the events after the host
+record Within (b : List ℕ) (s : Reading) : Type 0 where
+  inside : s .offset ≤ length b
+  here : (s .offset ≡ 0) ⊎ (17 ≤ s .offset)
+  events : (s .events ≡ 0) ⊎ ((17 ≤ s .events) × (s .events ≤ s .offset))
+
+module _ (known : Class → Bool) (b : List ℕ) (s : Reading) (p : Within b s) (z : recordFault known b s ≡ 0) where
+  events-within : (taken b s .events ≡ 0) ⊎ ((17 ≤ taken b s .events) × (taken b s .events ≤ taken b s .offset))
+  unfolding taken
+  events-within =
+      ⊎-elim
+      (λ e.
+      tested (isEvent (classIn b (s .offset)))
+      (λ k. rw (k, eq-eqb (s .events) 0 e) (⊎-elim (λ o. inl o) (λ o. inr (o, omega arith)) (p .here)))
+      (λ k. rw k (inl e)))
+      (λ e.
+      let n : s .events ≡ 0 → ⊥ = λ q. omega (arith, e .0) in
+      let l : s .events ≤ s .offset + sizeOf (byteIn b (s .offset)) = omega (arith, e .1) in
+      tested (isEvent (classIn b (s .offset))) (λ k. rw (k, ne-eqb (s .events) 0 n) (inr (e .0, l))) (λ k. rw k (inr (e .0, l))))
+      (p .events)
+
+  taken-within : Within b (taken b s)
+  taken-within =
+      record { inside = taken-inside known b s z; here = inr (taken-behind known b s (p .here) z); events = events-within }
+
+module _ (known : Class → Bool) (b : List ℕ) where
+  pub read-accepted : readIn known b .refusal ≡ 0 → rackRefusal (readIn known b .tree) ≡ 0
+  read-accepted =
+      in-has known b (λ s. rackRefusal (s .tree) ≡ 0) (λ d. d .refusal ≡ 0 → rackRefusal (d .tree) ≡ 0)
+      (λ s p i z. taken-accepted known b s p z) (λ s p e q. p) (λ s p i z q. absurd (z q))
+      (λ h e. none-accepted noMemory) (λ h q. none-accepted noMemory) (λ e q. none-accepted noMemory)
+
+  pub read-stored : readIn known b .refusal ≡ 0 → Stored (readIn known b .tree)
+  read-stored z = by-stored (readIn known b .tree) (stored z) (read-accepted z)
+    where
+      stored : readIn known b .refusal ≡ 0 → StoredBy (readIn known b .tree)
+      stored =
+          in-has known b (λ s. StoredBy (s .tree)) (λ d. d .refusal ≡ 0 → StoredBy (d .tree))
+          (λ s p i z. taken-stored known b s p) (λ s p e q. p) (λ s p i z q. absurd (z q))
+          (λ h e. refl) (λ h q. refl) (λ e q. refl)
+
+  -- a file that is read has 1 to 65,536 bytes
+  pub read-long : readIn known b .refusal ≡ 0 → length b ≤ 65536
+  read-long z =
+      tested (ltb 65536 (length b))
+      (λ q.
+      let e : _≡_ {A = ℕ} 1 0 = rw (read-over known b (ltb-true 65536 (length b) q)) at z in
+      absurd (omega arith))
+      (λ q. ltb-false 65536 (length b) q)
+
+  pub read-some : readIn known b .refusal ≡ 0 → length b ≡ 0 → ⊥
+  read-some z h = let e : _≡_ {A = ℕ} 4 0 = rw (read-empty known b h) at z in omega arith
+
+  -- and a refusal stands within the longest file
+  pub read-offset : readIn known b .offset ≤ 65536
+  read-offset =
+      in-has known b (λ s. Within b s × (length b ≤ 65536)) (λ d. d .offset ≤ 65536)
+      (λ s p i f. (taken-within known b s (p .0) f, p .1)) (λ s p e. ended s (p .0) (p .1)) (λ s p i f. omega (arith, p .1))
+      (λ h e. (record { inside = omega arith; here = inl refl; events = inl refl }, h)) (λ h. omega arith) (λ e. omega arith)
+    where
+      ended : (s : Reading) → Within b s → length b ≤ 65536 → s .events or s .offset ≤ 65536
+      ended s p h =
+          ⊎-elim (λ o. rw (eq-eqb (s .events) 0 o) (omega (arith, p .inside)))
+          (λ o. rw (ne-eqb (s .events) 0 (λ q. omega (arith, o .0))) (omega (arith, o .1, p .inside))) (p .events)
+
+  -- its host memory is the first record's
+  pub read-host : readIn known b .refusal ≡ 0 → readIn known b .tree .hostMemory ≡ hostIn b 0
+  read-host z =
+      in-has known b (λ s. (0 < s .offset → s .tree .hostMemory ≡ hostIn b 0) × (length b ≡ 0 → ⊥))
+      (λ d. (length b ≡ 0 → ⊥) → d .refusal ≡ 0 → d .tree .hostMemory ≡ hostIn b 0)
+      (λ s p i f. (λ h. taken-host known b s (p .0) f, p .1)) (λ s p e n q. p .0 (omega (arith, n))) (λ s p i f n q. absurd (f q))
+      (λ h e. (λ q. absurd (omega arith), e)) (λ h n q. absurd (omega (arith, q))) (λ e n. absurd (n e)) (read-some z) z
+
+-- the same of a whole file, and of the rack bytes of a C call
+module _ (b : List ℕ) where
+  pub alone-accepted : rackAlone b .refusal ≡ 0 → rackRefusal (rackAlone b .tree) ≡ 0
+  alone-accepted = read-accepted (isKnown false) b
+
+  pub alone-stored : rackAlone b .refusal ≡ 0 → Stored (rackAlone b .tree)
+  alone-stored = read-stored (isKnown false) b
+
+  pub file-accepted : fileIn b .refusal ≡ 0 → rackRefusal (fileIn b .tree) ≡ 0
+  file-accepted = read-accepted (isKnown true) b
+
+  pub file-stored : fileIn b .refusal ≡ 0 → Stored (fileIn b .tree)
+  file-stored = read-stored (isKnown true) b
+
+  pub file-long : fileIn b .refusal ≡ 0 → length b ≤ 65536
+  file-long = read-long (isKnown true) b
+
+  -- the offset of a refusal, and the offset at which an accepted file's events begin
+  pub file-offset : fileIn b .offset ≤ 65536
+  file-offset = read-offset (isKnown true) b

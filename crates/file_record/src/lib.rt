@@ -1,0 +1,57 @@
+// Rack files: records from bytes, and events one at a time. `file_load` walks a file up to its first faulty record.
+
+use rack::table::Table;
+
+pub mod events;
+pub mod number;
+pub mod record;
+
+// An event as its record gives it: fields are bytes as in the file, so that what refusal 13 refuses can be said.
+pub enum Event {
+    Write {
+        bus: u8,
+        devfn: u8,
+        register: u8,
+        enables: u8,
+        put: u32,
+    },
+    Read {
+        bus: u8,
+        devfn: u8,
+        register: u8,
+    },
+    Memory {
+        initiator: u8,
+        direction: u8,
+        address: u64,
+    },
+    Io {
+        initiator: u8,
+        direction: u8,
+        address: u32,
+    },
+    Check,
+}
+
+// What the records of a kind are. Unknown comes first: the library reads an element past an array's end as the first variant.
+pub enum Class {
+    Unknown,
+    Host,
+    Node,
+    Event,
+}
+
+// What is known in front of a record, beside the table of the rack: the record's offset and where the events begin (0 before the
+// first). Or the refusal of the record before it, which is not 0.
+pub struct Walk {
+    pub refusal: u8,
+    pub offset: usize,
+    pub events: usize,
+}
+
+// What was read: a refusal and its offset; or 0, the offset at which the events begin and the table of the rack.
+pub struct Loaded {
+    pub refusal: u8,
+    pub offset: usize,
+    pub table: Table,
+}

@@ -1,0 +1,168 @@
+// The forms of records; the host's memory and a node from their records.
+ghost use mathlib.Core.Path.{_≡_};
+ghost use mathlib.Core.Bool.{not};
+ghost use Prim.Native.Nat.{_≤_, _<_};
+ghost use Rattle.file_record.specs.definitions.Record.{formOf, sizeOf, classIn, isHost, isNode, isEvent, isRack, isKnown, cutShort, hostIn, regionFrom, nodeIn};
+use crate::Class;
+use crate::number::qword_in;
+use crate::number::word_in;
+use rack::Kind;
+use rack::Node;
+use rack::Range;
+use rack::Region;
+use register_header::register::byte_at;
+
+// The class of each kind, and the length of its body.
+const CLASSES: [Class; 9] = [
+    Class::Unknown,
+    Class::Host,
+    Class::Node,
+    Class::Node,
+    Class::Event,
+    Class::Event,
+    Class::Event,
+    Class::Event,
+    Class::Event,
+];
+
+const BODIES: [u8; 9] = [0, 16, 6, 12, 8, 3, 10, 6, 0];
+
+fn class_of(kind: u8) -> Class
+    ensures { λ r. ⌜ r ≡ formOf kind .class ⌝ }
+{
+    let at = kind as usize;
+    if at < 9 {
+        return CLASSES[at];
+    }
+    Class::Unknown
+}
+
+pub fn class_in(file: &[u8], o: usize) -> Class
+    ensures { λ r. ⌜ r ≡ classIn (now (file .entry)) o ⌝ }
+{
+    class_of(byte_at(file, o))
+}
+
+// A record's bytes, its kind too.
+pub fn size_of(kind: u8) -> usize
+    ensures { λ r. ⌜ (r ≡ sizeOf kind) × (1 ≤ r) × (r ≤ 17) ⌝ }
+{
+    let at = kind as usize;
+    if at < 9 {
+        return BODIES[at] as usize + 1;
+    }
+    1
+}
+
+pub fn is_host(c: Class) -> bool
+    ensures { λ r. ⌜ r ≡ isHost c ⌝ }
+{
+    match c {
+        Class::Unknown => false,
+        Class::Host => true,
+        Class::Node => false,
+        Class::Event => false,
+    }
+}
+
+pub fn is_node(c: Class) -> bool
+    ensures { λ r. ⌜ r ≡ isNode c ⌝ }
+{
+    match c {
+        Class::Unknown => false,
+        Class::Host => false,
+        Class::Node => true,
+        Class::Event => false,
+    }
+}
+
+pub fn is_event(c: Class) -> bool
+    ensures { λ r. ⌜ r ≡ isEvent c ⌝ }
+{
+    match c {
+        Class::Unknown => false,
+        Class::Host => false,
+        Class::Node => false,
+        Class::Event => true,
+    }
+}
+
+pub fn is_rack(c: Class) -> bool
+    ensures { λ r. ⌜ r ≡ isRack c ⌝ }
+{
+    let host = is_host(c);
+    host | is_node(c)
+}
+
+// 2
+pub fn no_kind(events: bool, c: Class) -> bool
+    ensures { λ r. ⌜ r ≡ not (isKnown events c) ⌝ }
+{
+    let rack = is_rack(c);
+    let event = is_event(c);
+    !(rack | (events & event))
+}
+
+// 3
+pub fn cut_short(file: &[u8], o: usize) -> bool
+    requires { ⌜ o ≤ 65536 ⌝ }
+    ensures { λ r. ⌜ r ≡ cutShort (now (file .entry)) o ⌝ }
+{
+    let end = o + size_of(byte_at(file, o));
+    file.len() < end
+}
+
+pub fn host_in(file: &[u8], o: usize) -> Range
+    requires { ⌜ o ≤ 65536 ⌝ }
+    ensures { λ r. ⌜ r ≡ hostIn (now (file .entry)) o ⌝ }
+{
+    Range {
+        first: qword_in(file, o + 1),
+        last: qword_in(file, o + 9),
+    }
+}
+
+fn region_from(file: &[u8], o: usize) -> Region
+    requires { ⌜ o < 131072 ⌝ }
+    ensures { λ r. ⌜ r ≡ regionFrom (now (file .entry)) o ⌝ }
+{
+    Region {
+        kind: byte_at(file, o),
+        exponent: byte_at(file, o + 1),
+    }
+}
+
+pub fn node_in(file: &[u8], o: usize) -> Node
+    requires { ⌜ o ≤ 65536 ⌝ }
+    ensures { λ r. ⌜ r ≡ nodeIn (now (file .entry)) o ⌝ }
+{
+    let parent = byte_at(file, o + 1);
+    let device = byte_at(file, o + 2);
+    let vendor_id = word_in(file, o + 3);
+    let device_id = word_in(file, o + 5);
+    if byte_at(file, o) == 2 {
+        let none = Region {
+            kind: 0,
+            exponent: 0,
+        };
+        return Node {
+            kind: Kind::Bridge,
+            parent,
+            device,
+            vendor_id,
+            device_id,
+            regions: [none, none, none],
+        };
+    }
+    let r = region_from(file, o + 7);
+    let s = region_from(file, o + 9);
+    let t = region_from(file, o + 11);
+    Node {
+        kind: Kind::Device,
+        parent,
+        device,
+        vendor_id,
+        device_id,
+        regions: [r, s, t],
+    }
+}

@@ -1,4 +1,0 @@
-pub mod Firsts
-pub mod Quiet
-pub mod Ways
-pub mod PassedRack

@@ -1,4 +1,0 @@
-pub mod Text
-pub mod Words
-pub mod Line
-pub mod Added

@@ -1,0 +1,58 @@
+-- The calls from C: what each returns, the eight numbers of its answer, and both images at its end.
+use Prim.Native.Nat.{ℕ}
+use mathlib.Core.List.{List}
+use Rattle.rack.specs.definitions.First.{_when_, _or_, unless}
+use Rattle.register_image.specs.definitions.Image.{Images, images}
+use Rattle.register_image.specs.definitions.Fixed.{lengthsWrong}
+use Rattle.register_image.specs.definitions.Reset.{resetImages}
+use Rattle.file_record.specs.definitions.Events.{eventIn, eventBytes}
+use Rattle.file_record.specs.definitions.Load.{rackAlone}
+use Rattle.call_table.specs.declared.EndsReply.{EndsReply}
+use Rattle.call_table.specs.definitions.Call.{Replied, runIn, checkIn, endsIn}
+use Rattle.call_numbers.specs.definitions.Numbers.{zeros, codeOf, replyNumbers, endsCode, endsNumbers}
+
+-- 0 or the refusal's number, eight numbers, and both images
+pub record Called : Type 0 where
+  pub code : ℕ
+  pub numbers : List ℕ
+  pub after : Images
+
+abbrev pub called : ℕ → List ℕ → List ℕ → List ℕ → Called
+called code numbers b d = record { code = code; numbers = numbers; after = images b d }
+
+-- a refusal: its number is returned, the answer is all 0, both images are untouched
+abbrev pub refusedCall : ℕ → Images → Called
+refusedCall refusal im = record { code = refusal; numbers = zeros; after = im }
+
+abbrev pub repliedCall : Replied → Called
+repliedCall r = record { code = codeOf (r .reply); numbers = replyNumbers (r .reply); after = r .after }
+
+abbrev pub endsCall : EndsReply → Images → Called
+endsCall e im = record { code = endsCode e; numbers = endsNumbers e; after = im }
+
+-- rack_run. 01: 'The two C calls take the rack records as bytes: 1 to 10 as for a file .. The event to run is read next, before 11: no
+-- byte or no event kind is 2, any length but its own is 3'; then 11 to 13, or the event is run
+unfoldable pub rackRun : List ℕ → List ℕ → Images → Called
+rackRun b event im =
+    unless (rackAlone b .refusal or eventBytes event)
+    (repliedCall (runIn (rackAlone b .tree) im (eventIn event 0))) (λ n. refusedCall n im)
+
+-- rack_check: 'A check changes no register'
+unfoldable pub rackCheck : List ℕ → Images → Called
+rackCheck b im =
+    unless (rackAlone b .refusal) (repliedCall (record { reply = checkIn (rackAlone b .tree) im; after = im }))
+    (λ n. refusedCall n im)
+
+-- rack_window: window k of a bridge (0 memory, 1 prefetchable, 2 I/O), or region k of a device
+unfoldable pub rackWindow : List ℕ → Images → ℕ → ℕ → Called
+rackWindow b im i k =
+    unless (rackAlone b .refusal) (endsCall (endsIn (rackAlone b .tree) im i k) im) (λ n. refusedCall n im)
+
+-- rack_reset: 1 to 10 of the rack's bytes, then 11; never 12, whatever the images hold
+abbrev pub resetRefusal : List ℕ → Images → ℕ
+resetRefusal b im = rackAlone b .refusal or 11 when lengthsWrong (rackAlone b .tree) im
+
+unfoldable pub rackReset : List ℕ → Images → Called
+rackReset b im =
+    unless (resetRefusal b im) (record { code = 0; numbers = zeros; after = resetImages (rackAlone b .tree) im })
+    (λ n. refusedCall n im)

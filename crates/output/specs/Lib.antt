@@ -1,4 +1,0 @@
-pub mod Output
-pub mod Filling
-pub mod Fills
-pub mod FillingLaws

@@ -1,4 +1,0 @@
-pub mod Events
-pub mod Parts
-pub mod Calls
-pub mod Whole

@@ -1,0 +1,61 @@
+-- The output in parts: as many whole lines as a buffer has room for, and where the next part begins.
+use Prim.Native.Nat.{ℕ, zero, suc, _+_, _-_}
+use mathlib.Core.Bool.{Bool, _||_, cond}
+use mathlib.Core.List.{List, [], _++_}
+use lib.Dec.{leb, ltb}
+use lib.ListN.{length, drop}
+use Rattle.rack.specs.definitions.Tree.{Tree}
+use Rattle.register_image.specs.definitions.Image.{Images}
+use Rattle.file_record.specs.definitions.Number.{byteIn}
+use Rattle.file_record.specs.definitions.Record.{sizeOf}
+use Rattle.file_record.specs.definitions.Events.{eventIn}
+use Rattle.event_run.specs.definitions.Answers.{Answered}
+use Rattle.event_run.specs.definitions.Run.{eventRun}
+use Rattle.print_file.specs.declared.Cursor.{Cursor}
+use Rattle.print_file.specs.definitions.Output.{answerLine}
+
+-- a text, the cursor after it, and both images then
+pub record Part : Type 0 where
+  pub text : List ℕ
+  pub next : Cursor
+  pub after : Images
+
+-- nothing more
+abbrev pub stop : Cursor → Images → Part
+stop at im = record { text = []; next = at; after = im }
+
+-- a line and what follows it
+abbrev pub behind : List ℕ → Part → Part
+behind line p = record { text = line ++ p .text; next = p .next; after = p .after }
+
+-- the cursor after the event at a cursor
+abbrev pub past : List ℕ → Cursor → Cursor
+past b at = record { offset = at .offset + sizeOf (byteIn b (at .offset)); number = at .number + 1 }
+
+-- the event at a cursor, run
+abbrev pub ranAt : Tree → List ℕ → Cursor → Images → Answered
+ranAt t b at im = eventRun t im (eventIn b (at .offset))
+
+-- its line
+abbrev pub lineAt : Tree → List ℕ → Cursor → Images → List ℕ
+lineAt t b at im = answerLine (at .number) (ranAt t b at im .answer)
+
+-- the file has ended, or the buffer has no room for the longest line
+abbrev pub ends : List ℕ → ℕ → Cursor → Bool
+ends b room at = leb (length b) (at .offset) || ltb room 96
+
+-- whole lines from a cursor on, at most `left` of them
+unfoldable pub partUpTo : ℕ → Tree → List ℕ → ℕ → Cursor → Images → Part
+partUpTo zero t b room at im = stop at im
+partUpTo (suc left) t b room at im =
+    cond (ends b room at) (stop at im)
+    (behind (lineAt t b at im)
+    (partUpTo left t b (room - length (lineAt t b at im)) (past b at) (ranAt t b at im .after)))
+
+-- as many whole lines as a buffer of `room` bytes takes
+abbrev pub partOf : Tree → List ℕ → ℕ → Cursor → Images → Part
+partOf t b room at im = partUpTo (length b) t b room at im
+
+-- a buffer with a text written over its start
+abbrev pub overStart : List ℕ → List ℕ → List ℕ
+overStart out text = text ++ drop (length text) out

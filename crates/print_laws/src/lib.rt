@@ -1,0 +1,1 @@
+// Theorems about the definitions of `print_file`; no code.

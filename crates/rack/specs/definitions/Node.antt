@@ -1,0 +1,42 @@
+-- What a node is, and the node that stands where a rack has none.
+use Prim.Native.Nat.{ℕ}
+use mathlib.Core.Bool.{Bool, true, false}
+use mathlib.Core.List.{[], _∷_}
+use lib.ListN.{getD}
+use Rattle.rack.specs.declared.Kind.{Kind}
+use Rattle.rack.specs.declared.Kind.the-variants.{Bridge, Device}
+use Rattle.rack.specs.declared.Region.{Region}
+use Rattle.rack.specs.declared.Node.{Node}
+
+-- 01: '2 bridge', '3 device'
+abbrev pub kindNumber : Kind → ℕ
+kindNumber Device = 3
+kindNumber Bridge = 2
+
+-- 01: 'Bridges' registers form one image and devices' another'
+abbrev pub isBridge : Kind → Bool
+isBridge Device = false
+isBridge Bridge = true
+
+-- 01: 'Region kinds: 0 none (e = 0)'
+abbrev pub noRegion : Region
+noRegion = record { kind = 0; exponent = 0 }
+
+abbrev pub regionIn : Node → ℕ → Region
+regionIn n r = getD (n .regions) r noRegion
+
+-- a node with its three regions written out, which is the same node
+abbrev pub spelt : Node → Node
+spelt n =
+    record {
+      kind = n .kind;
+      parent = n .parent;
+      device = n .device;
+      «vendor_id» = n .«vendor_id»;
+      «device_id» = n .«device_id»;
+      regions = regionIn n 0 ∷ regionIn n 1 ∷ regionIn n 2 ∷ [];
+    }
+
+-- what stands where a rack has no node
+abbrev pub noNode : Node
+noNode = record { kind = Device; parent = 0; device = 0; «vendor_id» = 0; «device_id» = 0; regions = [] }

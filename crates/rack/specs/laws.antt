@@ -1,0 +1,6 @@
+pub mod Bools
+pub mod CountLaws
+pub mod Search
+pub mod TreeLaws
+pub mod FirstLaws
+pub mod GrowLaws

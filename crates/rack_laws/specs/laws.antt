@@ -1,0 +1,9 @@
+pub mod Counts
+pub mod First
+pub mod Refusals
+pub mod Sound
+pub mod Places
+pub mod Depths
+pub mod Stored
+pub mod Agents
+pub mod Grown

@@ -1,0 +1,6 @@
+pub mod PciRegs
+pub mod Byte
+pub mod Tables
+pub mod Mask
+pub mod Register
+pub mod Sizing

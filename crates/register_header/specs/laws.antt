@@ -1,0 +1,6 @@
+pub mod Bits
+pub mod ByteLaws
+pub mod Every
+pub mod Disjoint
+pub mod Dword
+pub mod SizingLaws

@@ -1,0 +1,23 @@
+use borrow.Author.Needs.{needs}
+use Rattle.register_image.proofs.Counted.{refused-11, refused-12, refused-none}
+use Rattle.register_image.proofs.fixed.image_refusal.Statement.{statement}
+use Rattle.register_image.proofs.fixed.image_refusal.Tie as tie
+
+lengths-wrong-requires : tie.Need-lengths-wrong-requires
+lengths-wrong-requires c κs = search needs
+
+returns : tie.Need-returns
+returns c = search (refused-11, needs)
+
+fixed-wrong-requires : tie.Need-fixed-wrong-requires
+fixed-wrong-requires c κs = search needs
+
+returns-2 : tie.Need-returns-2
+returns-2 c = search (refused-12, needs)
+
+returns-3 : tie.Need-returns-3
+returns-3 c = search (refused-none, needs)
+
+pub image-refusal-spec : {M : Type 1} → statement M
+image-refusal-spec =
+    tie.close (tie.spec lengths-wrong-requires returns fixed-wrong-requires returns-2 returns-3)

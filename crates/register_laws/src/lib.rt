@@ -1,0 +1,1 @@
+// Theorems about the definitions of `register_image`; no code.

@@ -1,0 +1,69 @@
+-- What a bus does with an access, after the code has asked for what it rests on.
+use mathlib.Core.Path.{_≡_, ap, _∙_}
+use mathlib.Core.Bool.{Bool, true, false}
+use Prim.Native.Nat.{ℕ}
+use borrow.Author.Tests.{eq-eqb, ne-eqb}
+use Rattle.rack.specs.definitions.Tree.{Tree}
+use Rattle.register_header.specs.declared.Side.{Side}
+use Rattle.register_header.specs.declared.StatusBit.the-variants.{ReceivedMasterAbort}
+use Rattle.register_image.specs.definitions.Image.{Images, statusNode}
+use Rattle.claim_agent.specs.declared.Claimants.{Claimants}
+use Rattle.claim_agent.specs.declared.Claimants.the-variants.{Nobody, One, Two}
+use Rattle.claim_agent.specs.definitions.Claimants.{claimants, firstTwo}
+use Rattle.route_bus.specs.declared.Access.{Access}
+use Rattle.route_bus.specs.declared.Outcome.the-variants.{Abort}
+use Rattle.route_bus.specs.declared.End.the-variants.{Node, Unclaimed, Clash}
+use Rattle.route_bus.specs.declared.Sight.{Sight}
+use Rattle.route_bus.specs.declared.Sight.the-variants.{Ends}
+use Rattle.route_bus.specs.definitions.End.{Seen}
+use Rattle.route_bus.specs.definitions.Look.{sideOn, masterAbort, unclaimed, owned, claimed, target, direct, look}
+
+abbrev sees : Sight → Images → Seen
+sees s v = record { sight = s; after = v }
+
+module _ (t : Tree) (im : Images) (bus driver : ℕ) where
+  pub abort-host : driver ≡ 255 → im ≡ masterAbort t im bus driver
+  unfolding masterAbort
+  abort-host e = rw (eq-eqb driver 255 e)
+
+  pub abort-other : {s : Side} {v : Images} → (driver ≡ 255 → ⊥) → s ≡ sideOn bus driver
+      → v ≡ statusNode t im driver s ReceivedMasterAbort → v ≡ masterAbort t im bus driver
+  unfolding masterAbort
+  abort-other ne es ev = rw (ne-eqb driver 255 ne, ← es) ev
+
+  pub abort-seen : {v : Images} → v ≡ masterAbort t im bus driver → sees (Ends (Unclaimed bus Abort)) v ≡ unclaimed t im bus driver
+  unfolding unclaimed
+  abort-seen ev = rw ev
+
+module _ (t : Tree) (im : Images) (x : Access) (bus driver : ℕ) where
+  module _ {g : ℕ} (eg : g ≡ target t bus (x .devfn)) where
+    pub direct-none : {v : Seen} → g ≡ 255 → v ≡ unclaimed t im bus driver → v ≡ direct t im x bus driver
+    unfolding direct
+    direct-none e ev = rw (← eg, eq-eqb g 255 e) ev
+
+    pub direct-node : (g ≡ 255 → ⊥) → sees (Ends (Node g)) im ≡ direct t im x bus driver
+    unfolding direct
+    direct-node ne = rw (← eg, ne-eqb g 255 ne)
+
+  module _ {c : Claimants} where
+    pub claimed-none : {v : Seen} → c ≡ Nobody → v ≡ unclaimed t im bus driver → v ≡ claimed t im x bus driver c
+    unfolding claimed
+    claimed-none e ev = rw e ev
+
+    pub claimed-one : {g : ℕ} {s : Sight} → c ≡ One g → s ≡ owned t im x g → sees s im ≡ claimed t im x bus driver c
+    unfolding claimed
+    claimed-one e es = rw (e, es)
+
+    pub claimed-two : {y z : ℕ} → c ≡ Two y z → sees (Ends (Clash bus y z)) im ≡ claimed t im x bus driver c
+    unfolding claimed
+    claimed-two e = rw e
+
+  module _ {type0 : Bool} {v : Seen} where
+    pub look-direct : type0 ≡ true → v ≡ direct t im x bus driver → v ≡ look t im x bus driver type0
+    unfolding look
+    look-direct e ev = rw e ev
+
+    pub look-claimed : {c : Claimants} → type0 ≡ false → c ≡ firstTwo (claimants t im (x .space) bus driver (x .address))
+        → v ≡ claimed t im x bus driver c → v ≡ look t im x bus driver type0
+    unfolding look
+    look-claimed e ec ev = rw e (ev ∙ ap (claimed t im x bus driver) ec)

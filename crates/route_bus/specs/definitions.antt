@@ -1,0 +1,4 @@
+pub mod Outcome
+pub mod End
+pub mod Look
+pub mod Cross

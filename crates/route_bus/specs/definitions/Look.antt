@@ -1,0 +1,74 @@
+-- What a bus does with an access.
+use Prim.Native.Nat.{ℕ, _-_, _/_, _%_}
+use mathlib.Core.Bool.{Bool, true, false, _&&_, cond}
+use lib.Dec.{eqb}
+use Rattle.rack.specs.definitions.Node.{isBridge}
+use Rattle.rack.specs.definitions.Tree.{Tree, host, parentOf}
+use Rattle.register_header.specs.declared.Side.{Side}
+use Rattle.register_header.specs.declared.Side.the-variants.{Primary, Secondary}
+use Rattle.register_header.specs.declared.StatusBit.the-variants.{ReceivedMasterAbort}
+use Rattle.register_image.specs.definitions.Image.{Images, view, statusNode}
+use Rattle.claim_agent.specs.declared.Space.{Space}
+use Rattle.claim_agent.specs.declared.Space.the-variants.{Memory, Io, Configuration}
+use Rattle.claim_agent.specs.declared.Claimants.{Claimants}
+use Rattle.claim_agent.specs.declared.Claimants.the-variants.{Nobody, One, Two}
+use Rattle.claim_agent.specs.definitions.Agent.{deviceOf}
+use Rattle.claim_agent.specs.definitions.Claim.{reached, offsetIn}
+use Rattle.claim_agent.specs.definitions.Claimants.{claimants, firstTwo, nextFrom}
+use Rattle.route_bus.specs.declared.Access.{Access}
+use Rattle.route_bus.specs.declared.Outcome.the-variants.{Abort}
+use Rattle.route_bus.specs.declared.End.the-variants.{Node, Owner, Host, Unclaimed, Clash}
+use Rattle.route_bus.specs.declared.Sight.{Sight}
+use Rattle.route_bus.specs.declared.Sight.the-variants.{Ends, Crosses}
+use Rattle.route_bus.specs.definitions.End.{Seen}
+
+abbrev pub isIo : Space → Bool
+isIo Memory = false
+isIo Io = true
+isIo Configuration = false
+
+-- the side on which an agent meets a bus: a bridge its secondary on the bus that it holds
+abbrev pub sideOn : ℕ → ℕ → Side
+sideOn bus g = cond (eqb g bus) Secondary Primary
+
+-- 01: 'An unclaimed access sets bit 13 in the status of its driver on that side (..; the host none)'
+unfoldable pub masterAbort : Tree → Images → ℕ → ℕ → Images
+masterAbort t im bus driver =
+    cond (eqb driver host) im (statusNode t im driver (sideOn bus driver) ReceivedMasterAbort)
+
+unfoldable pub unclaimed : Tree → Images → ℕ → ℕ → Seen
+unclaimed t im bus driver = record { sight = Ends (Unclaimed bus Abort); after = masterAbort t im bus driver }
+
+-- 01: 'one claimant owns it or, if a bridge, takes it across'; the offset from the region's or the host's first address
+unfoldable pub owned : Tree → Images → Access → ℕ → Sight
+owned t im x g =
+    cond (eqb g host) (Ends (Host (x .address - t .hostMemory .first)))
+    (cond (isBridge (t .node g .kind)) (Crosses g)
+    (Ends
+    (Owner g (reached (deviceOf (t .node g) (view t im g)) (isIo (x .space)) (x .address))
+    (offsetIn (deviceOf (t .node g) (view t im g)) (isIo (x .space)) (x .address)))))
+
+-- 01: 'With no claimant the access is unclaimed, with two or more it clashes'. A clash sets nothing
+unfoldable pub claimed : Tree → Images → Access → ℕ → ℕ → Claimants → Seen
+claimed t im x bus driver Nobody = unclaimed t im bus driver
+claimed t im x bus driver (One g) = record { sight = owned t im x g; after = im }
+claimed t im x bus driver (Two y z) = record { sight = Ends (Clash bus y z); after = im }
+
+-- 01: 'Type 0 reaches the node of that device number, function 0'; 255 where there is none
+unfoldable pub target : Tree → ℕ → ℕ → ℕ
+target t bus devfn =
+    cond (eqb (devfn % 8) 0)
+    (nextFrom (λ i. eqb (parentOf t i) bus && eqb (t .node i .device) (devfn / 8)) 0 (t .count))
+    255
+
+-- 01: 'which owns it; otherwise .. it is unclaimed'. Its register is read or written where the event is run
+unfoldable pub direct : Tree → Images → Access → ℕ → ℕ → Seen
+direct t im x bus driver =
+    cond (eqb (target t bus (x .devfn)) 255) (unclaimed t im bus driver)
+    (record { sight = Ends (Node (target t bus (x .devfn))); after = im })
+
+-- a bus, for an access that is Type 0 configuration there or is claimed
+unfoldable pub look : Tree → Images → Access → ℕ → ℕ → Bool → Seen
+look t im x bus driver type0 =
+    cond type0 (direct t im x bus driver)
+    (claimed t im x bus driver (firstTwo (claimants t im (x .space) bus driver (x .address))))

@@ -1,0 +1,93 @@
+-- Which bridge takes an access on from a bus: an agent of the bus that does not drive it. Until then no image has changed.
+use mathlib.Core.Path.{_≡_, refl}
+use mathlib.Core.Bool.{Bool, true, false, not, _&&_, false≢true}
+use mathlib.Core.List.{List, [], _∷_}
+use mathlib.Core.Logic.{inl, inr}
+use Prim.Native.Nat.{ℕ}
+use native.Mathlib.Omega.{arith}
+use lib.Dec.{eqb}
+use borrow.Author.Tests.{eq-eqb, eqb-false}
+use Rattle.rack.specs.definitions.Node.{isBridge}
+use Rattle.rack.specs.laws.Bools.{tested, both}
+use Rattle.rack.specs.definitions.Tree.{Tree, host, agents, OnBus}
+use Rattle.rack_laws.specs.laws.Agents.{All, all-on}
+use Rattle.register_image.specs.definitions.Image.{Images}
+use Rattle.claim_agent.specs.definitions.Claim.{claims}
+use Rattle.claim_agent.specs.definitions.Claimants.{claimantsIn, claimants, firstTwo}
+use Rattle.route_bus.specs.declared.Access.{Access}
+use Rattle.route_bus.specs.declared.Sight.{Sight}
+use Rattle.route_bus.specs.declared.Sight.the-variants.{Ends, Crosses}
+use Rattle.route_bus.specs.definitions.End.{Out}
+use Rattle.route_bus.specs.definitions.Look.{unclaimed, owned, claimed, direct, target, look}
+use Rattle.route.specs.definitions.Route.{follow}
+
+-- bridge g takes an access on from a bus
+pub record Taken (t : Tree) (bus driver g : ℕ) : Type 0 where
+  pub bridge : isBridge (t .node g .kind) ≡ true
+  pub node : g ≡ host → ⊥
+  pub other : g ≡ driver → ⊥
+  pub agent : OnBus t bus g
+
+-- what is seen on a bus: an ending, or such a bridge and the images as they were
+abbrev pub Follows : Tree → ℕ → ℕ → Images → Sight → Images → Type 0
+Follows t bus driver im (Ends e) v = Unit {0}
+Follows t bus driver im (Crosses g) v = Taken t bus driver g × (v ≡ im)
+
+-- what holds of agents holds of those that claim, and none of these drives
+claiming : (P : ℕ → Type 0) (claim : ℕ → Bool) (driver : ℕ) (l : List ℕ) → All P l
+    → All (λ g. P g × (g ≡ driver → ⊥)) (claimantsIn claim driver l)
+unfolding All claimantsIn
+claiming P claim driver [] a = tt
+claiming P claim driver (g ∷ gs) a =
+    tested (claim g && not (eqb g driver))
+    (λ q. rw q ((a .0, λ e. off (eqb g driver) (both (claim g) _ q .1) (eq-eqb g driver e)), claiming P claim driver gs (a .1)))
+    (λ q. rw q (claiming P claim driver gs (a .1)))
+  where
+    off : (b : Bool) → not b ≡ true → b ≡ true → ⊥
+    off true n e = false≢true n
+    off false n e = false≢true e
+
+module _ (t : Tree) (bus : ℕ) where
+  agents-on : All (OnBus t bus) (agents t bus)
+  unfolding All
+  agents-on = (inl refl, all-on t bus (OnBus t bus) 0 (t .count) (λ k a b p. inr (omega (arith, b), p)))
+
+  module _ (im : Images) (x : Access) (driver : ℕ) where
+    owned-follows : (g : ℕ) → OnBus t bus g × (g ≡ driver → ⊥) → Follows t bus driver im (owned t im x g) im
+    unfolding owned
+    owned-follows g s =
+        tested (eqb g host) (λ a. rw a tt)
+        (λ a.
+        tested (isBridge (t .node g .kind))
+        (λ b.
+        let k : Taken t bus driver g = record { bridge = b; node = eqb-false g host a; other = s .1; agent = s .0 } in
+        rw (a, b) (k, refl))
+        (λ b. rw (a, b) tt))
+
+    claimed-follows : (l : List ℕ) → All (λ g. OnBus t bus g × (g ≡ driver → ⊥)) l
+        → Follows t bus driver im (claimed t im x bus driver (firstTwo l) .sight) (claimed t im x bus driver (firstTwo l) .after)
+    unfolding claimed unclaimed All
+    claimed-follows [] a = tt
+    claimed-follows (y ∷ []) a = owned-follows y (a .0)
+    claimed-follows (y ∷ (z ∷ l)) a = tt
+
+    direct-follows : Follows t bus driver im (direct t im x bus driver .sight) (direct t im x bus driver .after)
+    unfolding direct unclaimed
+    direct-follows =
+        tested (eqb (target t bus (x .devfn)) 255) (λ q. rw q tt) (λ q. rw q tt)
+
+    -- a look sees one or the other
+    pub look-follows : (type0 : Bool)
+        → Follows t bus driver im (look t im x bus driver type0 .sight) (look t im x bus driver type0 .after)
+    unfolding look
+    look-follows true = direct-follows
+    look-follows false =
+        claimed-follows (claimants t im (x .space) bus driver (x .address))
+        (claiming (OnBus t bus) (λ g. claims t im (x .space) bus g (x .address)) driver (agents t bus) agents-on)
+
+-- so two ways to go on that agree on such a bridge agree
+pub follow-same : (t : Tree) (bus driver : ℕ) (im : Images) (cross cross' : ℕ → Images → Out) (s : Sight) (v : Images)
+    → Follows t bus driver im s v → ((g : ℕ) → Taken t bus driver g → cross g im ≡ cross' g im)
+    → follow cross s v ≡ follow cross' s v
+follow-same t bus driver im cross cross' (Ends e) v f same = refl
+follow-same t bus driver im cross cross' (Crosses g) v f same = rw (f .1) (same g (f .0))

@@ -1,2 +1,0 @@
-pub mod Route
-pub mod StepLaws

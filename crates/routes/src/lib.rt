@@ -1,3 +1,0 @@
-// Where an access goes, up and down the tree, and what it leaves in the status registers: the cycle of the steps of `steps` and
-// `crossing`.
-pub mod route;

@@ -1,5 +1,0 @@
-pub mod Outcome
-pub mod End
-pub mod EndLaws
-pub mod Look
-pub mod Cross

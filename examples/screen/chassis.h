@@ -1,0 +1,31 @@
+/* A rack, its nodes by number, and its registers. */
+#ifndef SCREEN_CHASSIS_H
+#define SCREEN_CHASSIS_H
+
+#include "../../include/rack.h"
+
+#include <stdbool.h>
+
+struct chassis {
+    uint8_t rack[RACK_MOST_BYTES + 1]; /* one byte more, so that a file that is too long is seen */
+    size_t count;                      /* bytes of rack records */
+    const uint8_t *node[RACK_MOST_NODES];
+    unsigned nodes;
+    uint8_t bridges[RACK_MOST_BRIDGES * RACK_NODE_BYTES], devices[RACK_MOST_DEVICES * RACK_NODE_BYTES];
+    size_t bridge_bytes, device_bytes;
+};
+
+/* Where the fields of a bridge's and of a device's record lie, the kind's byte counted. */
+enum { AT_PARENT = 1, AT_DEVICE = 2, AT_VENDOR_ID = 3, AT_DEVICE_ID = 5 };
+
+/* The rack records of a file, with registers at reset; false where that cannot be, which is said. */
+bool load(struct chassis *c, const char *path);
+
+uint8_t reset(struct chassis *c);
+
+bool is_bridge(const struct chassis *c, unsigned node);
+
+/* A node's 64 registers in the image that holds them. */
+const uint8_t *registers_of(const struct chassis *c, unsigned node);
+
+#endif

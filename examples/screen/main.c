@@ -1,0 +1,232 @@
+/* A small classroom screen: the tree of a rack with both ends of every window and region, register writes and accesses from the
+ * keyboard, and where each access went. It links libmuzgante.a and decodes no register itself.
+ *
+ *     screen RACK        a rack file; the screen takes its rack records and leaves its events to the class
+ */
+#include "chassis.h"
+#include "show.h"
+#include "words.h"
+
+#include <stdio.h>
+#include <string.h>
+
+/* A command of the keyboard: what it takes after its name, and what it does with that. */
+struct command {
+    const char *name, *takes, *help;
+    unsigned words; /* of `takes` */
+    void (*obey)(struct chassis *c, const char *const word[]);
+};
+
+static void run(struct chassis *c, const uint8_t *event, size_t count)
+{
+    static struct chassis before;
+    before = *c;
+    uint64_t answer[RACK_ANSWER_NUMBERS];
+    uint8_t refusal =
+        rack_run(c->rack, c->count, event, count, c->bridges, c->bridge_bytes, c->devices, c->device_bytes, answer);
+    if (refusal != 0) {
+        show_refusal(refusal);
+        return;
+    }
+    show_answer(c, answer);
+    show_changes(c, &before);
+}
+
+/* A number of `count` bytes, lowest byte first. */
+static void put_number(uint8_t *bytes, uint64_t number, size_t count)
+{
+    for (size_t i = 0; i < count; i++) {
+        bytes[i] = (uint8_t)(number >> 8 * i);
+    }
+}
+
+/* BUS DEVICE REGISTER, the first three bytes of the body of a configuration event. */
+static bool read_place(const char *const word[], uint8_t *body)
+{
+    uint64_t bus, device, at;
+    if (!hexadecimal(word[0], "bus", 0xFF, &bus) || !hexadecimal(word[1], "device", 0x1F, &device) ||
+        !hexadecimal(word[2], "register", 0xFF, &at)) {
+        return false;
+    }
+    body[0] = (uint8_t)bus;
+    body[1] = (uint8_t)(8 * device); /* and function 0 */
+    body[2] = (uint8_t)at;
+    return true;
+}
+
+static void obey_read(struct chassis *c, const char *const word[])
+{
+    uint8_t event[1 + RACK_BODY_CONFIGURATION_READ] = {RACK_KIND_CONFIGURATION_READ};
+    if (read_place(word, &event[1])) {
+        run(c, event, sizeof event);
+    }
+}
+
+static void obey_write(struct chassis *c, const char *const word[])
+{
+    uint8_t event[1 + RACK_BODY_CONFIGURATION_WRITE] = {RACK_KIND_CONFIGURATION_WRITE};
+    uint64_t enables, data;
+    if (read_place(word, &event[1]) && hexadecimal(word[3], "set of byte enables", 0xF, &enables) &&
+        hexadecimal(word[4], "data", UINT32_MAX, &data)) {
+        event[4] = (uint8_t)enables;
+        put_number(&event[5], data, 4);
+        run(c, event, sizeof event);
+    }
+}
+
+/* WHO read|write, the first two bytes of the body of an access. */
+static bool read_driver(const char *const word[], uint8_t *body)
+{
+    uint64_t who = RACK_NODE_HOST;
+    if (strcmp(word[0], "host") != 0 && !decimal(word[0], "card's number, nor 'host'", RACK_NODE_HOST - 1, &who)) {
+        return false;
+    }
+    bool is_write = strcmp(word[1], "write") == 0;
+    if (!is_write && strcmp(word[1], "read") != 0) {
+        show_wrong(word[1], "direction", "read or write");
+        return false;
+    }
+    body[0] = (uint8_t)who;
+    body[1] = is_write;
+    return true;
+}
+
+static void obey_memory(struct chassis *c, const char *const word[])
+{
+    uint8_t event[1 + RACK_BODY_MEMORY] = {RACK_KIND_MEMORY};
+    uint64_t address;
+    if (read_driver(word, &event[1]) && hexadecimal(word[2], "memory address", UINT64_MAX, &address)) {
+        put_number(&event[3], address, 8);
+        run(c, event, sizeof event);
+    }
+}
+
+static void obey_io(struct chassis *c, const char *const word[])
+{
+    uint8_t event[1 + RACK_BODY_IO] = {RACK_KIND_IO};
+    uint64_t address;
+    if (read_driver(word, &event[1]) && hexadecimal(word[2], "I/O address", UINT32_MAX, &address)) {
+        put_number(&event[3], address, 4);
+        run(c, event, sizeof event);
+    }
+}
+
+static void obey_tree(struct chassis *c, const char *const word[])
+{
+    (void)word;
+    show_tree(c);
+}
+
+static void obey_check(struct chassis *c, const char *const word[])
+{
+    (void)word;
+    uint64_t answer[RACK_ANSWER_NUMBERS];
+    uint8_t refusal = rack_check(c->rack, c->count, c->bridges, c->bridge_bytes, c->devices, c->device_bytes, answer);
+    if (refusal != 0) {
+        show_refusal(refusal);
+    } else {
+        show_answer(c, answer);
+    }
+}
+
+static void obey_node(struct chassis *c, const char *const word[])
+{
+    uint64_t node;
+    if (c->nodes == 0) {
+        printf("this rack has no node\n");
+    } else if (decimal(word[0], "node", c->nodes - 1, &node)) {
+        show_registers(c, (unsigned)node);
+    }
+}
+
+static void obey_reset(struct chassis *c, const char *const word[])
+{
+    (void)word;
+    reset(c);
+}
+
+static void obey_help(struct chassis *c, const char *const word[]);
+
+static const struct command commands[] = {
+    {"tree", "", "the rack with both ends of every window and region", 0, obey_tree},
+    {"write", "BUS DEVICE REGISTER ENABLES DATA", "a configuration write, all in hexadecimal", 5, obey_write},
+    {"read", "BUS DEVICE REGISTER", "a configuration read, the same", 3, obey_read},
+    {"memory", "WHO read|write ADDRESS", "a memory access of the host, or of a card by its decimal number", 3, obey_memory},
+    {"io", "WHO read|write ADDRESS", "an I/O access, the same", 3, obey_io},
+    {"check", "", "does anyone claim what another claims?", 0, obey_check},
+    {"node", "NUMBER", "the 64 registers of a node, by its decimal number", 1, obey_node},
+    {"reset", "", "every register back to its reset value", 0, obey_reset},
+    {"help", "", "these lines", 0, obey_help},
+    {"quit", "", "the end of the lesson", 0, NULL},
+};
+enum { COMMANDS = sizeof commands / sizeof *commands };
+
+static void obey_help(struct chassis *c, const char *const word[])
+{
+    (void)c, (void)word;
+    for (unsigned i = 0; i < COMMANDS; i++) {
+        printf("%-6s %-33s %s\n", commands[i].name, commands[i].takes, commands[i].help);
+    }
+}
+
+/* One line of the keyboard; false ends the lesson. */
+static bool obey(struct chassis *c, const struct words *w)
+{
+    if (w->count == 0) {
+        return true;
+    }
+    for (unsigned i = 0; i < COMMANDS; i++) {
+        const struct command *found = &commands[i];
+        if (strcmp(w->word[0], found->name) != 0) {
+            continue;
+        }
+        if (w->count - 1 != found->words) {
+            printf("%s takes %u words%s%s, and here are %u\n", found->name, found->words, found->words == 0 ? "" : ", ", found->takes,
+                   w->count - 1);
+            return true;
+        }
+        if (found->obey == NULL) {
+            return false;
+        }
+        found->obey(c, &w->word[1]);
+        return true;
+    }
+    show_wrong(w->word[0], "command", "one of these");
+    obey_help(c, &w->word[1]);
+    return true;
+}
+
+static bool next_words(struct words *w)
+{
+    printf("> ");
+    fflush(stdout);
+    return read_words(w);
+}
+
+int main(int argc, char **argv)
+{
+    static struct chassis c;
+    static struct words w;
+    if (argc != 2) {
+        fprintf(stderr, "usage: screen RACK\n");
+        return 2;
+    }
+    if (!load(&c, argv[1])) {
+        return 1;
+    }
+    show_tree(&c);
+    bool goes_on = true;
+    while (goes_on) {
+        if (next_words(&w)) {
+            goes_on = obey(&c, &w);
+        } else {
+            putchar('\n');
+            goes_on = false;
+        }
+    }
+    if (fflush(stdout) != 0 || ferror(stdout)) {
+        fprintf(stderr, "screen: the output could not be written\n");
+        return 1;
+    }
+    return 0;
+}

@@ -1,0 +1,233 @@
+/* include/rack.h beside the archive: each number that it names is the one that the calls go by. */
+#include "../include/rack.h"
+
+#include <limits.h>
+#include <pthread.h>
+#include <stdio.h>
+#include <stdlib.h>
+#include <string.h>
+
+enum { RECORD = 1 + RACK_BODY_HOST, MOST = RACK_MOST_BYTES + 1 }; /* no record is longer than a host's */
+
+static void expect(int is_true, const char *what)
+{
+    if (!is_true) {
+        fprintf(stderr, "tests/header: %s\n", what);
+        exit(1);
+    }
+}
+
+struct rack {
+    uint8_t bytes[MOST];
+    size_t count, bridges, devices;
+};
+
+static void add(struct rack *r, uint8_t kind, size_t body, uint8_t parent, uint8_t device)
+{
+    uint8_t *record = &r->bytes[r->count];
+    record[0] = kind;
+    record[1] = parent;
+    record[2] = device;
+    r->count += 1 + body;
+    r->bridges += kind == RACK_KIND_BRIDGE;
+    r->devices += kind == RACK_KIND_DEVICE;
+}
+
+static void add_bridge(struct rack *r, uint8_t parent, uint8_t device) { add(r, RACK_KIND_BRIDGE, RACK_BODY_BRIDGE, parent, device); }
+static void add_device(struct rack *r, uint8_t parent, uint8_t device) { add(r, RACK_KIND_DEVICE, RACK_BODY_DEVICE, parent, device); }
+
+/* Host memory is the address 0 alone. */
+static void start(struct rack *r)
+{
+    memset(r, 0, sizeof *r);
+    add(r, RACK_KIND_HOST, RACK_BODY_HOST, 0, 0);
+}
+
+/* Room for one node more than the most, so that one too many can be tried. */
+static uint8_t bridges[RACK_NODE_BYTES * (RACK_MOST_BRIDGES + 1)], devices[RACK_NODE_BYTES * (RACK_MOST_DEVICES + 1)];
+
+static uint8_t reset(const struct rack *r)
+{
+    return rack_reset(r->bytes, r->count, bridges, RACK_NODE_BYTES * r->bridges, devices, RACK_NODE_BYTES * r->devices);
+}
+
+static uint8_t run(const struct rack *r, const uint8_t *event, size_t count, uint64_t answer[RACK_ANSWER_NUMBERS])
+{
+    return rack_run(r->bytes, r->count, event, count, bridges, RACK_NODE_BYTES * r->bridges, devices, RACK_NODE_BYTES * r->devices,
+                    answer);
+}
+
+static struct rack r;
+
+static void rack_bodies(void)
+{
+    static const uint8_t kinds[] = {RACK_KIND_HOST, RACK_KIND_BRIDGE, RACK_KIND_DEVICE};
+    for (size_t i = 0; i < sizeof kinds; i++) {
+        start(&r);
+        if (kinds[i] == RACK_KIND_BRIDGE) {
+            add_bridge(&r, RACK_NODE_HOST, 0);
+        } else if (kinds[i] == RACK_KIND_DEVICE) {
+            add_device(&r, RACK_NODE_HOST, 0);
+        }
+        expect(reset(&r) == 0, "a rack of one record of a kind is refused");
+        r.count--;
+        expect(reset(&r) == RACK_REFUSED_CUT_SHORT, "a rack record that lacks a byte is not cut short");
+        r.count += 2;
+        expect(reset(&r) == RACK_REFUSED_KIND, "a byte behind a rack record is no kind");
+    }
+}
+
+static void event_bodies(void)
+{
+    static const struct {
+        uint8_t kind;
+        size_t body;
+        uint64_t ending;
+    } events[] = {
+        {RACK_KIND_CONFIGURATION_WRITE, RACK_BODY_CONFIGURATION_WRITE, RACK_ENDED_STORED},
+        {RACK_KIND_CONFIGURATION_READ, RACK_BODY_CONFIGURATION_READ, RACK_ENDED_DATA},
+        {RACK_KIND_MEMORY, RACK_BODY_MEMORY, RACK_ENDED_SILENT},
+        {RACK_KIND_IO, RACK_BODY_IO, RACK_ENDED_SILENT},
+        {RACK_KIND_CHECK, RACK_BODY_CHECK, RACK_ENDED_PASS},
+    };
+    start(&r);
+    add_device(&r, RACK_NODE_HOST, 0);
+    expect(reset(&r) == 0, "a rack of one device is refused");
+    for (size_t i = 0; i < sizeof events / sizeof *events; i++) {
+        uint64_t answer[RACK_ANSWER_NUMBERS];
+        uint8_t event[RECORD + 1] = {events[i].kind};
+        size_t count = 1 + events[i].body;
+        expect(run(&r, event, count, answer) == 0 && answer[0] == events[i].ending, "an event of zeros ends in another way");
+        expect(run(&r, event, count + 1, answer) == RACK_REFUSED_CUT_SHORT, "an event with a byte too many is taken");
+        expect(run(&r, event, count - 1, answer) == (count == 1 ? RACK_REFUSED_KIND : RACK_REFUSED_CUT_SHORT), "an event that lacks a byte is taken");
+    }
+}
+
+static void access_of_the_host(void)
+{
+    uint64_t answer[RACK_ANSWER_NUMBERS];
+    uint8_t event[1 + RACK_BODY_MEMORY] = {RACK_KIND_MEMORY, RACK_NODE_HOST};
+    start(&r);
+    add_device(&r, RACK_NODE_HOST, 0);
+    expect(reset(&r) == 0, "a rack of one device is refused");
+    expect(run(&r, event, sizeof event, answer) == 0 && answer[0] == RACK_ENDED_UNCLAIMED && answer[2] == RACK_NODE_HOST &&
+               answer[3] == RACK_OUTCOME_ABORT,
+           "the host reaches what it drives itself");
+    devices[4] = 4; /* bus master */
+    event[1] = 0;
+    expect(run(&r, event, sizeof event, answer) == 0 && answer[0] == RACK_ENDED_HOST, "a card does not reach host memory");
+}
+
+static void limits(void)
+{
+    start(&r);
+    for (unsigned i = 0; i < RACK_MOST_BRIDGES; i++) {
+        add_bridge(&r, (uint8_t)(i == 0 ? RACK_NODE_HOST : i - 1), 0);
+    }
+    expect(reset(&r) == 0, "the most bridges are refused");
+    for (unsigned i = 0; i < RACK_MOST_DEVICES; i++) {
+        add_device(&r, (uint8_t)(i / 15), (uint8_t)(1 + i % 15));
+    }
+    expect(reset(&r) == 0, "the most nodes are refused");
+    expect(r.bridges + r.devices == RACK_MOST_NODES, "the most nodes are another number");
+    struct rack more = r;
+    add_device(&more, RACK_MOST_BRIDGES - 1, 15);
+    expect(reset(&more) == RACK_REFUSED_TOO_MANY, "a device too many is taken");
+    more = r;
+    add_bridge(&more, RACK_MOST_BRIDGES - 1, 15);
+    expect(reset(&more) == RACK_REFUSED_TOO_MANY, "a bridge too many is taken");
+    r.count = RACK_MOST_BYTES;
+    expect(reset(&r) == RACK_REFUSED_KIND, "the longest rack is too long");
+    r.count++;
+    expect(reset(&r) == RACK_REFUSED_TOO_LONG, "a byte too many is taken");
+}
+
+static void image_length(void)
+{
+    start(&r);
+    add_bridge(&r, RACK_NODE_HOST, 0);
+    expect(rack_reset(r.bytes, r.count, bridges, RACK_NODE_BYTES + 1, devices, 0) == RACK_REFUSED_IMAGE_LENGTH, "a byte too many");
+    expect(rack_reset(r.bytes, r.count, bridges, RACK_NODE_BYTES - 1, devices, 0) == RACK_REFUSED_IMAGE_LENGTH, "a byte too few");
+}
+
+/* Reset opens every window of a bridge from 0; the ends stay where they are whatever the bits say that the header names. */
+static void ends_of_windows(void)
+{
+    static const uint64_t last[RACK_NODE_WINDOWS] = {
+        [RACK_WINDOW_MEMORY] = 0xFFFFF, [RACK_WINDOW_PREFETCHABLE] = 0xFFFFF, [RACK_WINDOW_IO] = 0xFFF};
+    start(&r);
+    add_bridge(&r, RACK_NODE_HOST, 0);
+    expect(reset(&r) == 0, "a rack of one bridge is refused");
+    for (unsigned bits = 0; bits < 32; bits++) {
+        bridges[4] = (uint8_t)(bits & 7);            /* command: I/O, memory, master */
+        bridges[0x3E] = (uint8_t)(bits >> 3 << 2);   /* bridge control: ISA, VGA */
+        for (uint8_t k = 0; k < RACK_NODE_WINDOWS; k++) {
+            uint64_t answer[RACK_ANSWER_NUMBERS];
+            expect(rack_window(r.bytes, r.count, bridges, RACK_NODE_BYTES, devices, 0, 0, k, answer) == 0, "a window is refused");
+            expect(answer[0] == 1 && answer[1] == 0 && answer[2] == last[k], "a bit moves the ends of a window");
+        }
+    }
+    uint64_t answer[RACK_ANSWER_NUMBERS];
+    expect(rack_window(r.bytes, r.count, bridges, RACK_NODE_BYTES, devices, 0, 0, RACK_NODE_WINDOWS, answer) == RACK_REFUSED_FIELD,
+           "there is a window more");
+}
+
+static void texts(void)
+{
+    const char *none = rack_refusal_text(UINT_MAX);
+    for (unsigned i = 0; i <= RACK_REFUSED_FIELD; i++) {
+        expect(strcmp(rack_refusal_text(i), none) != 0, "a refusal has no text");
+        for (unsigned k = 0; k < i; k++) {
+            expect(strcmp(rack_refusal_text(i), rack_refusal_text(k)) != 0, "two refusals have one text");
+        }
+    }
+    for (unsigned i = RACK_REFUSED_FIELD + 1; i <= 300; i++) {
+        expect(strcmp(rack_refusal_text(i), none) == 0, "a number that is no refusal has a text");
+    }
+}
+
+/* The same writes and reads in every thread, on one rack and each thread's own image. */
+static void *lesson(void *seed)
+{
+    uint8_t image[RACK_NODE_BYTES], own = *(const uint8_t *)seed;
+    uint64_t answer[RACK_ANSWER_NUMBERS];
+    uint8_t write[] = {RACK_KIND_CONFIGURATION_WRITE, 0, 0, 0x0C, 1, 0, 0, 0, 0}, read[] = {RACK_KIND_CONFIGURATION_READ, 0, 0, 0x0C};
+    uint8_t none[1] = {0};
+    int is_good = rack_reset(r.bytes, r.count, none, 0, image, sizeof image) == 0;
+    for (unsigned i = 0; i < 2000; i++) {
+        write[5] = (uint8_t)(own + i);
+        is_good &= rack_run(r.bytes, r.count, write, sizeof write, none, 0, image, sizeof image, answer) == 0;
+        is_good &= rack_run(r.bytes, r.count, read, sizeof read, none, 0, image, sizeof image, answer) == 0;
+        is_good &= answer[0] == RACK_ENDED_DATA && answer[2] == write[5];
+    }
+    return is_good ? seed : NULL;
+}
+
+static void threads(void)
+{
+    static uint8_t seeds[] = {0, 50, 100, 150};
+    pthread_t thread[sizeof seeds];
+    start(&r);
+    add_device(&r, RACK_NODE_HOST, 0);
+    for (size_t i = 0; i < sizeof seeds; i++) {
+        expect(pthread_create(&thread[i], NULL, lesson, &seeds[i]) == 0, "no thread can be made");
+    }
+    for (size_t i = 0; i < sizeof seeds; i++) {
+        void *result = NULL;
+        expect(pthread_join(thread[i], &result) == 0 && result == &seeds[i], "a call saw what another thread did");
+    }
+}
+
+int main(void)
+{
+    rack_bodies();
+    event_bodies();
+    access_of_the_host();
+    limits();
+    image_length();
+    ends_of_windows();
+    texts();
+    threads();
+    puts("include/rack.h names the numbers that the calls go by");
+    return 0;
+}
