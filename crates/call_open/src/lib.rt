@@ -1,6 +1,6 @@
 // The open calls over a decoded rack and two lent images. None asks anything of its caller: each answers or refuses by number.
 ghost use mathlib.Core.Path.{_≡_};
-ghost use Rattle.rack.specs.definitions.Tree.{tree};
+ghost use Rattle.rack.specs.definitions.Grow.{tree};
 ghost use Rattle.register_image.specs.definitions.Image.{images};
 ghost use Rattle.call_table.specs.definitions.Call.{refusalBy, readIn, storeRefusal, storedIn, viewIn, sizeIn, endsIn, replied, runIn, checkIn};
 use call_table::EndsReply;

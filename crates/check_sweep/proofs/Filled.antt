@@ -12,7 +12,7 @@ use Rattle.rack.specs.definitions.Tree.{Tree, parentOf, nodesFrom, nodesOn, age
 use Rattle.register_image.specs.definitions.Image.{Images}
 use Rattle.claim_agent.specs.definitions.Agent.{agentOf}
 use Rattle.check_search.specs.laws.FirstLaws.{on-first, off-first, none-left, all-left}
-use Rattle.check_search.specs.laws.Stretch.{nobody, Gathered}
+use Rattle.check_search.specs.definitions.Gathered.{nobody, Gathered}
 
 -- the first n of `all` are in `found`, and `rest` are the others
 pub record Filled (g : ℕ → Agent) (all rest : List ℕ) (found : List Agent) (n : ℕ) : Type 0 where

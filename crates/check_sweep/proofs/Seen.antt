@@ -14,7 +14,8 @@ use Rattle.claim_agent.specs.definitions.Claim.{claimsOf, untilOf}
 use Rattle.check_search.specs.declared.Report.{Report}
 use Rattle.check_search.specs.declared.Report.the-variants.{Pass}
 use Rattle.check_search.specs.definitions.Check.{isFault, firstFrom, atValue}
-use Rattle.check_search.specs.laws.Stretch.{nobody, Gathered, untilAll, claiming}
+use Rattle.check_search.specs.definitions.Gathered.{nobody, Gathered}
+use Rattle.check_search.specs.laws.Stretch.{untilAll, claiming}
 use Rattle.check_search.specs.laws.FirstLaws.{else-found, from-step, pass-is, from-end}
 use Rattle.check_search.specs.laws.StretchLaws.{until-step, until-end, claiming-step, claiming-end, all-kept, leap, few-claim}
 

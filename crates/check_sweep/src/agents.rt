@@ -5,7 +5,7 @@ ghost use lib.ListN.{length};
 ghost use Rattle.rack.specs.definitions.Table.{treeOf};
 ghost use Rattle.rack.specs.definitions.Tree.{agents};
 ghost use Rattle.register_image.specs.definitions.Image.{images};
-ghost use Rattle.check_search.specs.laws.Stretch.{Gathered};
+ghost use Rattle.check_search.specs.definitions.Gathered.{Gathered};
 use claim_agent::Agent;
 use claim_bus::decode::agent_at;
 use rack::table::Table;

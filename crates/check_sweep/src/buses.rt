@@ -10,7 +10,7 @@ ghost use Rattle.rack.specs.definitions.Refusal.{rackRefusal};
 ghost use Rattle.register_image.specs.definitions.Image.{images};
 ghost use Rattle.check_search.specs.declared.Report.the-variants.{Pass};
 ghost use Rattle.check_search.specs.definitions.Check.{busReport, check};
-ghost use Rattle.check_search.specs.laws.Stretch.{Gathered};
+ghost use Rattle.check_search.specs.definitions.Gathered.{Gathered};
 use crate::agents::agent_count;
 use crate::agents::agents_on;
 use crate::sweep::sweep;

@@ -7,7 +7,7 @@ ghost use Rattle.rack.specs.definitions.Table.{treeOf};
 ghost use Rattle.rack.specs.definitions.Tree.{agents};
 ghost use Rattle.register_image.specs.definitions.Image.{images};
 ghost use Rattle.check_search.specs.definitions.Check.{firstFrom, atValue};
-ghost use Rattle.check_search.specs.laws.Stretch.{Gathered};
+ghost use Rattle.check_search.specs.definitions.Gathered.{Gathered};
 use check_search::Report;
 use check_search::drivers::found_at;
 use check_search::drivers::is_fault;

@@ -8,7 +8,7 @@ ghost use Rattle.rack.specs.definitions.First.{_or_};
 ghost use Rattle.rack.specs.definitions.Grow.{grown};
 ghost use Rattle.rack.specs.definitions.Refusal.{rackRefusal};
 ghost use Rattle.file_record.specs.definitions.Number.{byteIn};
-ghost use Rattle.file_record.specs.definitions.Record.{sizeOf, classIn, isHost, isNode, isEvent, isKnown, nodeIn};
+ghost use Rattle.file_record.specs.definitions.Record.{sizeOf, classIn, isA, isKnown, nodeIn};
 ghost use Rattle.file_record.specs.definitions.Load.{hostWrong, followsEvent, shapeFault, nodeFault, fieldFault, recordFault, taken, atStart, readFrom, readIn, fileIn, rackAlone};
 ghost use Rattle.file_record.specs.definitions.Loads.{readingOf, Steps, Loads};
 use file_record::Class;
@@ -19,9 +19,7 @@ use file_record::events::event_wrong;
 use file_record::record::class_in;
 use file_record::record::cut_short;
 use file_record::record::host_in;
-use file_record::record::is_event;
-use file_record::record::is_host;
-use file_record::record::is_node;
+use file_record::record::is_a;
 use file_record::record::is_rack;
 use file_record::record::no_kind;
 use file_record::record::node_in;
@@ -38,7 +36,7 @@ use register_header::register::byte_at;
 fn host_wrong(c: Class, o: usize) -> bool
     ensures { λ r. ⌜ r ≡ hostWrong c o ⌝ }
 {
-    let host = is_host(c);
+    let host = is_a(Class::Host, c);
     if o == 0 { !host } else { host }
 }
 
@@ -104,7 +102,7 @@ fn stopped(refusal: u8) -> Walk
 }
 
 fn past_node(file: &[u8], table: &mut Table, w: Walk) -> Walk
-    requires { ⌜ (w .offset ≤ 65536) × (isNode (classIn (now file) (w .offset)) ≡ true) × (rackRefusal (treeOf (now table)) ≡ 0) ⌝ }
+    requires { ⌜ (w .offset ≤ 65536) × (isA Class.Node (classIn (now file) (w .offset)) ≡ true) × (rackRefusal (treeOf (now table)) ≡ 0) ⌝ }
     ensures { λ r. ⌜ Steps r (now (table .exit)) (nodeFault (now (file .entry)) (w .offset) (treeOf (now (table .entry)))) (taken (now (file .entry)) (readingOf w (now (table .entry)))) ⌝ }
 {
     let offset = past(file, w.offset);
@@ -127,7 +125,7 @@ fn begin(events: usize, o: usize) -> usize
 }
 
 fn past_event(file: &[u8], table: &Table, w: Walk) -> Walk
-    requires { ⌜ (w .offset ≤ 65536) × (isEvent (classIn (now file) (w .offset)) ≡ true) ⌝ }
+    requires { ⌜ (w .offset ≤ 65536) × (isA Class.Event (classIn (now file) (w .offset)) ≡ true) ⌝ }
     ensures { λ r. ⌜ Steps r (now (table .entry)) (fieldFault (now (file .entry)) (w .offset) (treeOf (now (table .entry)))) (taken (now (file .entry)) (readingOf w (now (table .entry)))) ⌝ }
 {
     if event_wrong(table, event_in(file, w.offset)) {
@@ -141,7 +139,7 @@ fn past_event(file: &[u8], table: &Table, w: Walk) -> Walk
 }
 
 fn past_host(file: &[u8], table: &mut Table, w: Walk) -> Walk
-    requires { ⌜ (w .offset ≤ 65536) × (isHost (classIn (now file) (w .offset)) ≡ true) ⌝ }
+    requires { ⌜ (w .offset ≤ 65536) × (isA Class.Host (classIn (now file) (w .offset)) ≡ true) ⌝ }
     ensures { λ r. ⌜ Steps r (now (table .exit)) 0 (taken (now (file .entry)) (readingOf w (now (table .entry)))) ⌝ }
 {
     *table = no_table(host_in(file, w.offset));
@@ -162,10 +160,10 @@ fn step(file: &[u8], known: bool, table: &mut Table, w: Walk) -> Walk
     if fault != 0 {
         return stopped(fault);
     }
-    if is_node(class) {
+    if is_a(Class::Node, class) {
         return past_node(file, table, w);
     }
-    if is_event(class) {
+    if is_a(Class::Event, class) {
         return past_event(file, table, w);
     }
     past_host(file, table, w)

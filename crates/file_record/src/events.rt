@@ -6,13 +6,14 @@ ghost use lib.Dec.{eqb};
 ghost use lib.ListN.{length};
 ghost use Rattle.rack.specs.definitions.Table.{treeOf};
 ghost use Rattle.file_record.specs.definitions.Number.{byteIn};
-ghost use Rattle.file_record.specs.definitions.Record.{sizeOf, classIn, isEvent};
+ghost use Rattle.file_record.specs.definitions.Record.{sizeOf, classIn, isA};
 ghost use Rattle.file_record.specs.definitions.Events.{eventIn, initiates, registerWrong, writeWrong, accessWrong, eventWrong, eventBytes};
+use crate::Class;
 use crate::Event;
 use crate::number::dword_in;
 use crate::number::qword_in;
 use crate::record::class_in;
-use crate::record::is_event;
+use crate::record::is_a;
 use crate::record::size_of;
 use rack::table::Table;
 use rack::table::count_of;
@@ -121,10 +122,10 @@ pub fn event_wrong(table: &Table, e: Event) -> bool
 }
 
 fn no_event(bytes: &[u8]) -> bool
-    ensures { λ r. ⌜ r ≡ not (isEvent (classIn (now (bytes .entry)) 0)) ⌝ }
+    ensures { λ r. ⌜ r ≡ not (isA Class.Event (classIn (now (bytes .entry)) 0)) ⌝ }
 {
     let class = class_in(bytes, 0);
-    !is_event(class)
+    !is_a(Class::Event, class)
 }
 
 fn other_length(bytes: &[u8]) -> bool

@@ -2,7 +2,7 @@
 ghost use mathlib.Core.Path.{_≡_};
 ghost use mathlib.Core.Bool.{not};
 ghost use Prim.Native.Nat.{_≤_, _<_};
-ghost use Rattle.file_record.specs.definitions.Record.{formOf, sizeOf, classIn, isHost, isNode, isEvent, isRack, isKnown, cutShort, hostIn, regionFrom, nodeIn};
+ghost use Rattle.file_record.specs.definitions.Record.{formOf, sizeOf, classIn, classNumber, isA, isRack, isKnown, cutShort, hostIn, regionFrom, nodeIn};
 use crate::Class;
 use crate::number::qword_in;
 use crate::number::word_in;
@@ -54,44 +54,28 @@ pub fn size_of(kind: u8) -> usize
     1
 }
 
-pub fn is_host(c: Class) -> bool
-    ensures { λ r. ⌜ r ≡ isHost c ⌝ }
+fn class_number(c: Class) -> u8
+    ensures { λ r. ⌜ r ≡ classNumber c ⌝ }
 {
     match c {
-        Class::Unknown => false,
-        Class::Host => true,
-        Class::Node => false,
-        Class::Event => false,
+        Class::Unknown => 0,
+        Class::Host => 1,
+        Class::Node => 2,
+        Class::Event => 3,
     }
 }
 
-pub fn is_node(c: Class) -> bool
-    ensures { λ r. ⌜ r ≡ isNode c ⌝ }
+pub fn is_a(k: Class, c: Class) -> bool
+    ensures { λ r. ⌜ r ≡ isA k c ⌝ }
 {
-    match c {
-        Class::Unknown => false,
-        Class::Host => false,
-        Class::Node => true,
-        Class::Event => false,
-    }
-}
-
-pub fn is_event(c: Class) -> bool
-    ensures { λ r. ⌜ r ≡ isEvent c ⌝ }
-{
-    match c {
-        Class::Unknown => false,
-        Class::Host => false,
-        Class::Node => false,
-        Class::Event => true,
-    }
+    class_number(k) == class_number(c)
 }
 
 pub fn is_rack(c: Class) -> bool
     ensures { λ r. ⌜ r ≡ isRack c ⌝ }
 {
-    let host = is_host(c);
-    host | is_node(c)
+    let host = is_a(Class::Host, c);
+    host | is_a(Class::Node, c)
 }
 
 // 2
@@ -99,7 +83,7 @@ pub fn no_kind(events: bool, c: Class) -> bool
     ensures { λ r. ⌜ r ≡ not (isKnown events c) ⌝ }
 {
     let rack = is_rack(c);
-    let event = is_event(c);
+    let event = is_a(Class::Event, c);
     !(rack | (events & event))
 }
 

@@ -1,4 +1,5 @@
 -- One digit more, in hexadecimal and in decimal, and how many digits a number has.
+use Rattle.print_line.specs.definitions.Line.{Added}
 use mathlib.Core.Path.{_≡_, refl}
 use mathlib.Core.List.{[], _∷_, _++_}
 use Prim.Native.Nat.{ℕ, zero, suc, _+_, _-_, _/_, _%_, _^_, _<_, _≤_}
@@ -11,7 +12,7 @@ use lib.ListN.{length, length-append}
 use Rattle.rack.specs.laws.Bools.{tested}
 use Rattle.print_line.specs.declared.Line.{Line}
 use Rattle.print_line.specs.definitions.Text.{hexDigit, hexOf, decimalUpTo, decimalOf}
-use Rattle.print_line.specs.laws.Added.{Added, added-none, added-both}
+use Rattle.print_line.specs.laws.Added.{added-none, added-both}
 
 hex-step : (k x : ℕ) → (k ≡ 0 → ⊥) → hexOf k x ≡ hexOf (k - 1) (x / 16) ++ (hexDigit (x % 16) ∷ [])
 unfolding hexOf

@@ -6,8 +6,7 @@ use native.Mathlib.Omega.{arith}
 use lib.ListN.{length}
 use Rattle.print_line.specs.declared.Line.{Line}
 use Rattle.print_line.specs.definitions.Text.{decimalOf}
-use Rattle.print_line.specs.definitions.Line.{textOf, spaced, lineOf}
-use Rattle.print_line.specs.laws.Added.{Added}
+use Rattle.print_line.specs.definitions.Line.{textOf, spaced, lineOf, Added}
 use Rattle.print_line.proofs.Digits.{decimal-ten}
 
 -- the first text of a line

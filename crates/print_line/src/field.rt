@@ -4,8 +4,7 @@ ghost use mathlib.Core.List.{_∷_, _++_};
 ghost use Prim.Native.Nat.{_+_, _≤_};
 ghost use lib.ListN.{length};
 ghost use Rattle.print_line.specs.definitions.Text.{hexOf, decimalOf};
-ghost use Rattle.print_line.specs.definitions.Line.{textOf};
-ghost use Rattle.print_line.specs.laws.Added.{Added};
+ghost use Rattle.print_line.specs.definitions.Line.{textOf, Added};
 use crate::Line;
 
 // An answer's line begins with the event number and a word.

@@ -1,9 +1,10 @@
 -- A table that is filled node by node: what an empty one holds, one with a node more, and one with the nodes of a rack.
-use mathlib.Core.Path.{_≡_, refl, ap, _∙_, fun-ext}
+use mathlib.Core.Path.{_≡_, refl, ap, _∙_}
 use mathlib.Core.Bool.{Bool, cond}
 use mathlib.Core.List.{List}
 use Prim.Native.Nat.{ℕ, zero, suc, _+_, _-_, _*_, _<_, _≤_, min, max}
 use native.Mathlib.Omega.{arith}
+use native.Mathlib.Numerals.{add-one}
 use borrow.Author.Tests.{lt-ltb, le-ltb, ltb-true, ltb-false, eqb-true, eqb-false}
 use lib.Dec.{ltb, eqb}
 use lib.ListN.{length, getD, set, replicate}
@@ -13,11 +14,11 @@ use Rattle.rack.specs.declared.Rack.{Rack}
 use Rattle.rack.specs.declared.Range.{Range}
 use Rattle.rack.specs.definitions.Node.{isBridge, spelt, noNode}
 use Rattle.rack.specs.laws.Bools.{tested}
-use Rattle.rack.specs.definitions.Tree.{Tree, placeOf, bridgesBelow, devicesBelow, bridgeCount, deviceCount, imageCount, busDepth, deepestOf, treeWith, counting, firstNodes, tree}
+use Rattle.rack.specs.definitions.Tree.{Tree, bridgesBelow, devicesBelow, bridgeCount, deviceCount, imageCount}
 use Rattle.rack.specs.laws.TreeLaws.{tree-same, devices-left}
 use Rattle.rack.specs.definitions.Table.{Low, High, End, lowAt, highAt, nodeAt, placeAt, depthAt, treeOf, tableWith}
-use Rattle.rack.specs.definitions.Grow.{noTree, nodesWith, newDepth, grown}
-use Rattle.rack.specs.laws.GrowLaws.{grown-with}
+use Rattle.rack.specs.definitions.Grow.{noTree, newDepth, grown, treeWith, counting, tree}
+use Rattle.rack.specs.laws.GrowLaws.{with-count}
 use Rattle.rack.proofs.Words.{kept, low-in, high-in, end-in, low-same, high-same, node-same, node-back}
 
 all-0 : (m k : ℕ) → getD {A = ℕ} (replicate m 0) k 0 ≡ 0
@@ -47,15 +48,13 @@ module _ (h : Range) where
   unfolding nodeAt
   no-node k = rw (no-low k, no-high k)
 
-  no-place : (k : ℕ) → placeAt empty k ≡ cond (ltb k 0) (placeOf (λ i. spelt noNode) k) 0
-  no-place k = rw (no-low k, le-ltb k 0 (omega arith))
+  no-place : (k : ℕ) → placeAt empty k ≡ 0
+  no-place k = rw (no-low k)
 
-  no-depth : (k : ℕ) → depthAt empty k ≡ busDepth (λ i. spelt noNode) 0 k
-  unfolding busDepth
+  no-depth : (k : ℕ) → depthAt empty k ≡ 0
   no-depth k = rw (no-high k) (omega arith)
 
   pub none-held : treeOf empty ≡ noTree h
-  unfolding deepestOf
   none-held = tree-same refl refl no-node no-place no-depth refl
 
 -- the depth of a new node's bus is at most its number and one
@@ -131,31 +130,17 @@ one-more table n long room at is place depth old picked greatest low high last p
     (place ∙ rw is) depth low high
     (rw at at last) (rw (greatest, picked, old, is, depth)))
 
--- the first nodes of a rack, with the next
-first-more : (rack : Rack) (h : Range) (k i : ℕ) → nodesWith (treeWith h (firstNodes rack k) k) (getD (rack .nodes) k noNode) i ≡ firstNodes rack (k + 1) i
-unfolding firstNodes
-first-more rack h k i =
-    tested (eqb i k)
-    (λ q. let e : i ≡ k = eqb-true i k q in rw (q, lt-ltb i (k + 1) (omega arith), e))
-    (λ q.
-    let ne = eqb-false i k q in
-    tested (ltb i k)
-    (λ l. rw (q, l, lt-ltb i (k + 1) (omega (arith, ltb-true i k l))))
-    (λ l. rw (q, l, le-ltb i (k + 1) (omega (arith, ne, ltb-false i k l)))))
-
 -- the tree of the first nodes of a rack
 abbrev pub treeTo : Rack → ℕ → Tree
-treeTo rack k = treeWith (record { first = rack .first; last = rack .last }) (firstNodes rack k) k
+treeTo rack k = treeWith (record { first = rack .first; last = rack .last }) (λ i. getD (rack .nodes) i noNode) k
 
 pub to-none : (rack : Rack) {t : Tree} {h : Range} → h ≡ record { first = rack .first; last = rack .last } → t ≡ noTree h → t ≡ treeTo rack 0
-unfolding firstNodes
-to-none rack e z = z ∙ rw e (ap (λ (node : ℕ → Node). treeWith (record { first = rack .first; last = rack .last }) node 0) (fun-ext (λ i. rw (le-ltb i 0 (omega arith)))))
+unfolding treeWith
+to-none rack e z = z ∙ ap noTree e
 
 pub to-more : (rack : Rack) (k : ℕ) {t u : Tree} → t ≡ treeTo rack k → u ≡ grown t (getD (rack .nodes) k noNode) → u ≡ treeTo rack (k + 1)
-to-more rack k {t} {u} e g =
-    let h : Range = record { first = rack .first; last = rack .last } in
-    g ∙ rw e (grown-with h (firstNodes rack k) k (getD (rack .nodes) k noNode))
-    ∙ ap (λ (node : ℕ → Node). treeWith h node (k + 1)) (fun-ext (first-more rack h k))
+unfolding treeWith
+to-more rack k e g = rw (add-one k) (g ∙ ap (λ (t : Tree). grown t (getD (rack .nodes) k noNode)) e)
 
 -- the place of a bridge or a device after the last, by the count of bridges alone
 pub place-next : (node : ℕ → Node) (b : Bool) {n count bridges p : ℕ} → n ≡ count → bridges ≡ bridgesBelow node n → p ≡ cond b bridges (n - bridges)
@@ -184,7 +169,7 @@ module _ (table : List ℕ) (end : ℕ) where
 
 pub to-room : (rack : Rack) (table : List ℕ) {i n : ℕ} → treeOf table ≡ treeTo rack i → n ≡ min 96 (rack .count) → i < n
     → treeOf table .count < 96
-to-room rack table e m l = omega (arith, m, ap (λ (t : Tree). t .count) e)
+to-room rack table {i} e m l = omega (arith, m, ap (λ (t : Tree). t .count) e, with-count (record { first = rack .first; last = rack .last }) (λ k. getD (rack .nodes) k noNode) i)
 
 -- all of them
 pub to-all : (rack : Rack) {t u : Tree} {i n : ℕ} → t ≡ treeTo rack i → n ≡ min 96 (rack .count) → i ≤ n → n ≤ i

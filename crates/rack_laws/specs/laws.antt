@@ -3,6 +3,7 @@ pub mod First
 pub mod Refusals
 pub mod Sound
 pub mod Places
+pub mod OnePass
 pub mod Depths
 pub mod Stored
 pub mod Agents

@@ -24,7 +24,8 @@ use Rattle.claim_laws.specs.laws.Steady.{agent-kept}
 use Rattle.check_search.specs.declared.Report.{Report}
 use Rattle.check_search.specs.declared.Report.the-variants.{Pass, Fault}
 use Rattle.check_search.specs.definitions.Check.{orElse, firstIn, firstFrom, shown, drivenBy, driversOf, atValue, firstOf, inSpace, busReport}
-use Rattle.check_search.specs.laws.Stretch.{nobody, Gathered, untilAll, claiming}
+use Rattle.check_search.specs.definitions.Gathered.{nobody, Gathered}
+use Rattle.check_search.specs.laws.Stretch.{untilAll, claiming}
 use Rattle.check_search.specs.laws.FirstLaws.{from-step}
 
 -- a space all of whose values pass

@@ -19,7 +19,8 @@ use Rattle.claim_agent.specs.definitions.Agent.{agentOf}
 use Rattle.check_search.specs.declared.Report.{Report}
 use Rattle.check_search.specs.declared.Report.the-variants.{Pass, Fault}
 use Rattle.check_search.specs.definitions.Check.{orElse, firstIn, firstFrom, atValue, firstOf, inSpace, busReport, check}
-use Rattle.check_search.specs.laws.Stretch.{nobody, Gathered, untilAll}
+use Rattle.check_search.specs.definitions.Gathered.{nobody, Gathered}
+use Rattle.check_search.specs.laws.Stretch.{untilAll}
 use Rattle.check_search.specs.laws.FirstLaws.{from-step, from-end}
 use Rattle.check_search.specs.laws.StretchLaws.{leap}
 

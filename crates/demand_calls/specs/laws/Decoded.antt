@@ -4,7 +4,8 @@ use mathlib.Core.Path.{_≡_}
 use mathlib.Core.List.{List}
 use Prim.Native.Nat.{_+_, _≤_}
 use Rattle.rack.specs.declared.Rack.{Rack}
-use Rattle.rack.specs.definitions.Tree.{tree, depth, greatestDepth}
+use Rattle.rack.specs.definitions.Tree.{depth, greatestDepth}
+use Rattle.rack.specs.definitions.Grow.{tree}
 use Rattle.rack_laws.specs.laws.Stored.{accepted-stored}
 use Rattle.register_image.specs.definitions.Image.{Images}
 use Rattle.register_laws.specs.laws.Accepted as images

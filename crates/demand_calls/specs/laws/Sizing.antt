@@ -9,7 +9,7 @@ use Rattle.rack.specs.declared.Rack.{Rack}
 use Rattle.rack.specs.laws.Bools.{neither}
 use Rattle.rack.specs.laws.FirstLaws.{unless-none}
 use Rattle.rack.specs.definitions.Node.{isBridge, regionIn}
-use Rattle.rack.specs.definitions.Tree.{tree}
+use Rattle.rack.specs.definitions.Grow.{tree}
 use Rattle.register_image.specs.definitions.Image.{Images}
 use Rattle.register_laws.specs.laws.Sizes.{accepted-size}
 use Rattle.call_table.specs.declared.Number.the-variants as number

@@ -13,7 +13,8 @@ use Rattle.register_header.specs.definitions.PciRegs.{COMMAND, STATUS, BASE-ADD
 use Rattle.register_header.specs.definitions.Register.{readRegister, writeRegister}
 use Rattle.register_header.specs.definitions.Sizing.{readBack, sizePart}
 use Rattle.register_image.specs.definitions.Reset.{resetPart}
-use Rattle.rack.specs.definitions.Tree.{Tree, host, treeWith}
+use Rattle.rack.specs.definitions.Tree.{Tree, host}
+use Rattle.rack.specs.definitions.Grow.{treeWith}
 use Rattle.register_image.specs.definitions.Image.{Images, images}
 use Rattle.claim_window.specs.definitions.Range.{empty}
 use Rattle.claim_agent.specs.declared.Space.the-variants.{Memory, Configuration}
@@ -35,7 +36,7 @@ use Prim.Native.String.{String}
 use Rattle.rack.specs.definitions.Refusal.{rackRefusal}
 use Rattle.register_image.specs.definitions.Fixed.{imageRefusal}
 use Rattle.print_line.specs.definitions.Line.{reportLine}
-use Rattle.print_line.specs.laws.Words.{codesOf}
+use Rattle.print_line.specs.definitions.Text.{codesOf}
 
 -- a byte put at an offset
 pub data Poke : Type 0 where

@@ -6,7 +6,8 @@ use Rattle.register_header.specs.definitions.Mask.{writeMask, clearMask, region
 use Rattle.register_header.specs.definitions.Register.{readRegister, writeByte, writeDword, writeRegister}
 use Rattle.register_header.specs.definitions.Sizing.{readBack, sizePart}
 use Rattle.register_image.specs.definitions.Reset.{resetFrom}
-use Rattle.rack.specs.definitions.Tree.{placeOf, nodesFrom, bridgesFrom}
+use Rattle.rack.specs.definitions.Tree.{nodesFrom, bridgesFrom}
+use Rattle.rack.specs.definitions.Grow.{treeWith, grown}
 use Rattle.register_image.specs.definitions.Image.{nodePart, view}
 use Rattle.claim_window.specs.definitions.Area.{areaOf}
 use Rattle.claim_window.specs.definitions.Area as area
@@ -29,36 +30,35 @@ use Rattle.rack.specs.definitions.First.{first, firstFrom}
 use Rattle.rack.specs.definitions.Refusal.{tooMany, badParent, highDevice, takenDevice, badRegion, nodeRefusal, rackRefusal}
 use Rattle.register_image.specs.definitions.Fixed.{lengthsWrong, byteWrong, imageRefusal}
 use Rattle.print_line.specs.definitions.Line.{reportFields, spaced}
-use Rattle.print_line.specs.definitions.Text.{hexOf, decimalOf, decimalUpTo}
-use Rattle.print_line.specs.laws.Words.{codesOf}
+use Rattle.print_line.specs.definitions.Text.{hexOf, decimalOf, decimalUpTo, codesOf}
 
 -- the check is a search of every address: what the sweep finds in at most 40 stretches is what it finds (`checked`)
 three-faults : check (rackOf three) (imagesOf three) ≡ Fault 0 Memory 0x90000000 2 0 1
-unfolding countOf placeOf resetFrom resetByte regionReset nodePart view nodesFrom bridgesFrom windowsOf areaOf area.holds insideMemory insideIo memoryUntil ioUntil cutAt cutPast cutIf cutLow bridgeOf deviceOf agentOf primaryClaims secondaryClaims deviceClaims hostClaims claimsOf windowsUntil regionsUntil untilOf claimantsIn firstIn shown atValue untilAll decoded sweepBy firstBy onBusBy checkBy
+unfolding treeWith grown countOf resetFrom resetByte regionReset nodePart view nodesFrom bridgesFrom windowsOf areaOf area.holds insideMemory insideIo memoryUntil ioUntil cutAt cutPast cutIf cutLow bridgeOf deviceOf agentOf primaryClaims secondaryClaims deviceClaims hostClaims claimsOf windowsUntil regionsUntil untilOf claimantsIn firstIn shown atValue untilAll decoded sweepBy firstBy onBusBy checkBy
 three-faults = checked 40 _ _ _ refl
 
 two-pass : check (rackOf two) (imagesOf two) ≡ Pass
-unfolding countOf placeOf resetFrom resetByte regionReset nodePart view nodesFrom bridgesFrom windowsOf areaOf area.holds insideMemory insideIo memoryUntil ioUntil cutAt cutPast cutIf cutLow bridgeOf deviceOf agentOf primaryClaims secondaryClaims deviceClaims hostClaims claimsOf windowsUntil regionsUntil untilOf claimantsIn firstIn shown atValue untilAll decoded sweepBy firstBy onBusBy checkBy
+unfolding treeWith grown countOf resetFrom resetByte regionReset nodePart view nodesFrom bridgesFrom windowsOf areaOf area.holds insideMemory insideIo memoryUntil ioUntil cutAt cutPast cutIf cutLow bridgeOf deviceOf agentOf primaryClaims secondaryClaims deviceClaims hostClaims claimsOf windowsUntil regionsUntil untilOf claimantsIn firstIn shown atValue untilAll decoded sweepBy firstBy onBusBy checkBy
 two-pass = checked 40 _ _ _ refl
 
 -- both racks are accepted
 three-rack : rackRefusal (rackOf three) ≡ 0
-unfolding firstFrom first tooMany badParent highDevice takenDevice badRegion nodeRefusal someFrom countOf
+unfolding firstFrom first tooMany badParent highDevice takenDevice badRegion nodeRefusal someFrom treeWith grown countOf
 three-rack = refl
 
 three-images : imageRefusal (rackOf three) (imagesOf three) ≡ 0
-unfolding lengthsWrong byteWrong imageRefusal someFrom countOf placeOf resetFrom resetByte regionReset regionWrite writeMask clearMask nodePart view
+unfolding lengthsWrong byteWrong imageRefusal someFrom treeWith grown countOf resetFrom resetByte regionReset regionWrite writeMask clearMask nodePart view
 three-images = refl
 
 two-rack : rackRefusal (rackOf two) ≡ 0
-unfolding firstFrom first tooMany badParent highDevice takenDevice badRegion nodeRefusal someFrom countOf
+unfolding firstFrom first tooMany badParent highDevice takenDevice badRegion nodeRefusal someFrom treeWith grown countOf
 two-rack = refl
 
 two-images : imageRefusal (rackOf two) (imagesOf two) ≡ 0
-unfolding lengthsWrong byteWrong imageRefusal someFrom countOf placeOf resetFrom resetByte regionReset regionWrite writeMask clearMask nodePart view
+unfolding lengthsWrong byteWrong imageRefusal someFrom treeWith grown countOf resetFrom resetByte regionReset regionWrite writeMask clearMask nodePart view
 two-images = refl
 
 -- every row holds
 pub table : all rows ≡ true
-unfolding reportFields hexOf decimalOf decimalUpTo codesOf endsOf windowIn resetFrom resetByte regionReset regionWrite writeMask clearMask readRegister writeByte writeDword writeRegister readBack sizePart windowsOf insideIo nodesFrom nodePart view bridgeOf agentOf primaryClaims hostClaims claimsOf claimantsIn owned claimed look turnsType0 placeOf countOf spaced
+unfolding reportFields hexOf decimalOf decimalUpTo codesOf endsOf windowIn resetFrom resetByte regionReset regionWrite writeMask clearMask readRegister writeByte writeDword writeRegister readBack sizePart windowsOf insideIo nodesFrom nodePart view bridgeOf agentOf primaryClaims hostClaims claimsOf claimantsIn owned claimed look turnsType0 treeWith grown countOf spaced
 table = rw (three-faults, two-pass, three-rack, three-images, two-rack, two-images) refl

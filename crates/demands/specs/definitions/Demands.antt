@@ -7,7 +7,8 @@ use lib.Dec.{eqb}
 use lib.ListN.{length, getD}
 use Rattle.rack.specs.declared.Rack.{Rack}
 use Rattle.rack.specs.definitions.Node.{regionIn}
-use Rattle.rack.specs.definitions.Tree.{Tree, tree, depth, greatestDepth}
+use Rattle.rack.specs.definitions.Tree.{Tree, depth, greatestDepth}
+use Rattle.rack.specs.definitions.Grow.{tree}
 use Rattle.rack.specs.definitions.Refusal.{rackRefusal, FirstFaultyNode}
 use Rattle.register_header.specs.definitions.Register.{readRegister}
 use Rattle.register_image.specs.definitions.Image.{Images, view, writeNode}

@@ -5,7 +5,8 @@ use mathlib.Core.List.{List}
 use Prim.Native.Nat.{ℕ, _<_}
 use lib.ListN.{getD}
 use Rattle.rack.specs.declared.Rack.{Rack}
-use Rattle.rack.specs.definitions.Tree.{Tree, tree}
+use Rattle.rack.specs.definitions.Tree.{Tree}
+use Rattle.rack.specs.definitions.Grow.{tree}
 use Rattle.rack_laws.specs.laws.Refusals as refusals
 use Rattle.rack_laws.specs.laws.Stored.{accepted-stored}
 use Rattle.register_image.specs.definitions.Image.{Images}

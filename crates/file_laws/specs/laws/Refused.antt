@@ -14,7 +14,8 @@ use Rattle.rack.specs.definitions.Grow.{nodesWith}
 use Rattle.rack.specs.definitions.Refusal.{nodeFaults, nodeRefusal}
 use Rattle.rack_laws.specs.laws.First.{same-place, same-number}
 use Rattle.file_record.specs.declared.Class.{Class}
-use Rattle.file_record.specs.definitions.Record.{classIn, isNode, isEvent, nodeIn}
+use Rattle.file_record.specs.declared.Class.the-variants as class
+use Rattle.file_record.specs.definitions.Record.{classIn, isA, nodeIn}
 use Rattle.file_record.specs.definitions.Load.{Reading, atStart, shapeFaults, shapeFault, nodeFault, recordFaults, recordFault, taken, Loading, readIn}
 use Rattle.file_record.specs.laws.Turns.{taken-later, read-empty, read-all, read-has}
 use Rattle.file_record.specs.laws.LoadLaws.{read-long, read-some}
@@ -135,9 +136,9 @@ record-1 known b s =
     first-1 (recordFaults known b s) (
       first-1 (shapeFaults known b (classIn b (s .offset)) (s .offset) (s .events)) (search when-1),
       (
-        when-1 _ (isNode (classIn b (s .offset)))
+        when-1 _ (isA class.Node (classIn b (s .offset)))
             (first-1 (nodeFaults (nodesWith (s .tree) (nodeIn b (s .offset))) (s .tree .count)) (search when-1)),
-        (when-1 _ (isEvent (classIn b (s .offset))) (search when-1), tt),
+        (when-1 _ (isA class.Event (classIn b (s .offset))) (search when-1), tt),
       ),
     )
 

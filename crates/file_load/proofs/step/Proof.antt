@@ -1,4 +1,4 @@
-use Rattle.file_record.specs.laws.Steps.{node-told, event-told, host-left, shape-stops, node-goes, event-goes, host-goes}
+use Rattle.file_record.specs.laws.Steps.{class-told, host-left, shape-stops, node-goes, event-goes, host-goes}
 use borrow.Author.Needs.{needs}
 use Rattle.file_load.proofs.step.Statement.{statement}
 use Rattle.file_load.proofs.step.Tie as tie
@@ -15,20 +15,20 @@ stopped-requires c κs = search needs
 returns : tie.Need-returns
 returns c = search (shape-stops, needs)
 
-is-node-requires : tie.Need-is-node-requires
-is-node-requires c κs = search needs
+is-a-requires : tie.Need-is-a-requires
+is-a-requires c κs = search needs
 
 past-node-requires : tie.Need-past-node-requires
-past-node-requires c κs = search (node-told, needs)
+past-node-requires c κs = search (class-told, needs)
 
 returns-2 : tie.Need-returns-2
 returns-2 c = search (node-goes, needs)
 
-is-event-requires : tie.Need-is-event-requires
-is-event-requires c κs = search needs
+is-a-requires-2 : tie.Need-is-a-requires-2
+is-a-requires-2 c κs = search needs
 
 past-event-requires : tie.Need-past-event-requires
-past-event-requires c κs = search (event-told, needs)
+past-event-requires c κs = search (class-told, needs)
 
 returns-3 : tie.Need-returns-3
 returns-3 c = search (event-goes, needs)
@@ -47,10 +47,10 @@ step-spec =
     shape-fault-requires
     stopped-requires
     returns
-    is-node-requires
+    is-a-requires
     past-node-requires
     returns-2
-    is-event-requires
+    is-a-requires-2
     past-event-requires
     returns-3
     past-host-requires

@@ -7,10 +7,11 @@ use lib.ListN.{length}
 use Rattle.rack.specs.definitions.Node.{isBridge}
 use Rattle.rack.specs.definitions.First.{_when_, first}
 use Rattle.rack.specs.definitions.Tree.{Tree, host}
+use Rattle.file_record.specs.declared.Class.the-variants as class
 use Rattle.file_record.specs.declared.Event.{Event}
 use Rattle.file_record.specs.declared.Event.the-variants.{Write, Read, Memory, Io, Check}
 use Rattle.file_record.specs.definitions.Number.{byteIn, dwordIn, qwordIn}
-use Rattle.file_record.specs.definitions.Record.{sizeOf, classIn, isEvent}
+use Rattle.file_record.specs.definitions.Record.{sizeOf, classIn, isA}
 
 -- the kind and the values of an event's record
 abbrev pub eventKind : Event → ℕ
@@ -62,4 +63,4 @@ eventWrong t Check = false
 
 -- 01: 'The event to run is read next ..: no byte or no event kind is 2, any length but its own is 3'; past the end there is no kind
 unfoldable pub eventBytes : List ℕ → ℕ
-eventBytes b = first (2 when not (isEvent (classIn b 0)) ∷ 3 when not (eqb (length b) (sizeOf (byteIn b 0))) ∷ [])
+eventBytes b = first (2 when not (isA class.Event (classIn b 0)) ∷ 3 when not (eqb (length b) (sizeOf (byteIn b 0))) ∷ [])

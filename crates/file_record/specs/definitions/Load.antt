@@ -10,8 +10,9 @@ use Rattle.rack.specs.definitions.Grow.{noTree, nodesWith, grown}
 use Rattle.rack.specs.definitions.Refusal.{nodeRefusal}
 use Rattle.rack.specs.declared.Range.{Range}
 use Rattle.file_record.specs.declared.Class.{Class}
+use Rattle.file_record.specs.declared.Class.the-variants as class
 use Rattle.file_record.specs.definitions.Number.{byteIn}
-use Rattle.file_record.specs.definitions.Record.{sizeOf, classIn, isHost, isNode, isEvent, isRack, isKnown, cutShort, hostIn, nodeIn}
+use Rattle.file_record.specs.definitions.Record.{sizeOf, classIn, isA, isRack, isKnown, cutShort, hostIn, nodeIn}
 use Rattle.file_record.specs.definitions.Events.{eventIn, eventWrong}
 
 -- no host memory: 'first above last means none'
@@ -29,7 +30,7 @@ atStart = record { offset = 0; events = 0; tree = noTree noMemory }
 
 -- 4: 'the first is not a host, or a later one is'
 abbrev pub hostWrong : Class → ℕ → Bool
-hostWrong c o = cond (eqb o 0) (not (isHost c)) (isHost c)
+hostWrong c o = cond (eqb o 0) (not (isA class.Host c)) (isA class.Host c)
 
 -- 5: 'A rack record follows an event'
 abbrev pub followsEvent : Class → ℕ → Bool
@@ -55,8 +56,8 @@ fieldFault b o t = 13 when eventWrong t (eventIn b o)
 abbrev pub recordFaults : (Class → Bool) → List ℕ → Reading → List ℕ
 recordFaults known b s =
     shapeFault known b (classIn b (s .offset)) (s .offset) (s .events)
-    ∷ nodeFault b (s .offset) (s .tree) when isNode (classIn b (s .offset))
-    ∷ fieldFault b (s .offset) (s .tree) when isEvent (classIn b (s .offset)) ∷ []
+    ∷ nodeFault b (s .offset) (s .tree) when isA class.Node (classIn b (s .offset))
+    ∷ fieldFault b (s .offset) (s .tree) when isA class.Event (classIn b (s .offset)) ∷ []
 
 -- the first number that applies, 0 where none does
 unfoldable pub recordFault : (Class → Bool) → List ℕ → Reading → ℕ
@@ -67,10 +68,10 @@ unfoldable pub taken : List ℕ → Reading → Reading
 taken b s =
     record {
       offset = s .offset + sizeOf (byteIn b (s .offset));
-      events = cond (isEvent (classIn b (s .offset))) (s .events or s .offset) (s .events);
+      events = cond (isA class.Event (classIn b (s .offset))) (s .events or s .offset) (s .events);
       tree =
-          cond (isHost (classIn b (s .offset))) (noTree (hostIn b (s .offset)))
-          (cond (isNode (classIn b (s .offset))) (grown (s .tree) (nodeIn b (s .offset))) (s .tree));
+          cond (isA class.Host (classIn b (s .offset))) (noTree (hostIn b (s .offset)))
+          (cond (isA class.Node (classIn b (s .offset))) (grown (s .tree) (nodeIn b (s .offset))) (s .tree));
     }
 
 -- a refusal and its offset; or 0, the offset at which the events begin or, without events, the records end, and the rack

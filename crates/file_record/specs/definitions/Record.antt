@@ -42,30 +42,22 @@ sizeOf kind = formOf kind .body + 1
 abbrev pub classIn : List ℕ → ℕ → Class
 classIn b o = formOf (byteIn b o) .class
 
-abbrev pub isHost : Class → Bool
-isHost class.Unknown = false
-isHost class.Host = true
-isHost class.Node = false
-isHost class.Event = false
+-- classes are told apart by a number
+abbrev pub classNumber : Class → ℕ
+classNumber class.Unknown = 0
+classNumber class.Host = 1
+classNumber class.Node = 2
+classNumber class.Event = 3
 
-abbrev pub isNode : Class → Bool
-isNode class.Unknown = false
-isNode class.Host = false
-isNode class.Node = true
-isNode class.Event = false
-
-abbrev pub isEvent : Class → Bool
-isEvent class.Unknown = false
-isEvent class.Host = false
-isEvent class.Node = false
-isEvent class.Event = true
+abbrev pub isA : Class → Class → Bool
+isA k c = eqb (classNumber k) (classNumber c)
 
 abbrev pub isRack : Class → Bool
-isRack c = isHost c || isNode c
+isRack c = isA class.Host c || isA class.Node c
 
 -- 2: 'The kind is not 1 to 8'; without events, in the rack records of a C call, 'an event kind there being 2'
 abbrev pub isKnown : Bool → Class → Bool
-isKnown events c = isRack c || (events && isEvent c)
+isKnown events c = isRack c || (events && isA class.Event c)
 
 -- 3: 'The body is cut short'
 unfoldable pub cutShort : List ℕ → ℕ → Bool

@@ -15,11 +15,13 @@ use Rattle.rack.specs.definitions.Stored.{Stored}
 use Rattle.rack.specs.definitions.Grow.{grown}
 use Rattle.rack.specs.definitions.Refusal.{rackRefusal}
 use Rattle.rack_laws.specs.laws.First.{at, list-none-given}
-use Rattle.rack_laws.specs.laws.Stored.{StoredBy, by-stored}
-use Rattle.rack_laws.specs.laws.Grown.{none-accepted, grown-accepted, grown-stored}
+use Rattle.rack_laws.specs.laws.OnePass.{StoredBy, none-stored, grown-stored}
+use Rattle.rack_laws.specs.laws.Stored.{by-stored}
+use Rattle.rack_laws.specs.laws.Grown.{none-accepted, grown-accepted}
 use Rattle.file_record.specs.declared.Class.{Class}
+use Rattle.file_record.specs.declared.Class.the-variants as class
 use Rattle.file_record.specs.definitions.Number.{byteIn}
-use Rattle.file_record.specs.definitions.Record.{sizeOf, classIn, isHost, isNode, isEvent, isKnown, hostIn, nodeIn}
+use Rattle.file_record.specs.definitions.Record.{sizeOf, classIn, isA, isKnown, hostIn, nodeIn}
 use Rattle.file_record.specs.laws.RecordLaws.{host-size}
 use Rattle.file_record.specs.definitions.Load.{noMemory, Reading, nodeFault, recordFaults, recordFault, taken, readIn, fileIn, rackAlone}
 use Rattle.file_record.specs.laws.Steps.{shape-ends, shape-host}
@@ -31,7 +33,7 @@ module _ (known : Class → Bool) (b : List ℕ) (s : Reading) where
   unfolding recordFault
   none-applies z = list-none-given (recordFaults known b s) z
 
-  fault-node : recordFault known b s ≡ 0 → isNode (classIn b (s .offset)) ≡ true → nodeFault b (s .offset) (s .tree) ≡ 0
+  fault-node : recordFault known b s ≡ 0 → isA class.Node (classIn b (s .offset)) ≡ true → nodeFault b (s .offset) (s .tree) ≡ 0
   fault-node z k = rw k at (none-applies z 1 (lit< tt))
 
   -- ends within the file, and leaves an accepted rack
@@ -42,25 +44,25 @@ module _ (known : Class → Bool) (b : List ℕ) (s : Reading) where
   pub taken-accepted : rackRefusal (s .tree) ≡ 0 → recordFault known b s ≡ 0 → rackRefusal (taken b s .tree) ≡ 0
   unfolding taken nodeFault
   taken-accepted ok z =
-      tested (isHost (classIn b (s .offset))) (λ h. rw h (none-accepted (hostIn b (s .offset))))
+      tested (isA class.Host (classIn b (s .offset))) (λ h. rw h (none-accepted (hostIn b (s .offset))))
       (λ h.
-      tested (isNode (classIn b (s .offset))) (λ k. rw (h, k) (grown-accepted (s .tree) (nodeIn b (s .offset)) ok (fault-node z k)))
+      tested (isA class.Node (classIn b (s .offset))) (λ k. rw (h, k) (grown-accepted (s .tree) (nodeIn b (s .offset)) ok (fault-node z k)))
       (λ k. rw (h, k) ok))
 
   taken-stored : StoredBy (s .tree) → StoredBy (taken b s .tree)
   unfolding taken
   taken-stored p =
-      tested (isHost (classIn b (s .offset))) (λ h. rw h refl)
+      tested (isA class.Host (classIn b (s .offset))) (λ h. rw h (none-stored (hostIn b (s .offset))))
       (λ h.
-      tested (isNode (classIn b (s .offset))) (λ k. rw (h, k) (grown-stored (s .tree) (nodeIn b (s .offset)) p)) (λ k. rw (h, k) p))
+      tested (isA class.Node (classIn b (s .offset))) (λ k. rw (h, k) (grown-stored (s .tree) (nodeIn b (s .offset)) p)) (λ k. rw (h, k) p))
 
   -- the first record is a host, and none after it is
-  first-host : recordFault known b s ≡ 0 → s .offset ≡ 0 → isHost (classIn b (s .offset)) ≡ true
+  first-host : recordFault known b s ≡ 0 → s .offset ≡ 0 → isA class.Host (classIn b (s .offset)) ≡ true
   first-host z e =
       let h = shape-host known b (classIn b (s .offset)) (s .offset) (s .events) (none-applies z 0 (lit< tt)) in
-      not-false (isHost (classIn b (s .offset))) (rw (eq-eqb (s .offset) 0 e) at h)
+      not-false (isA class.Host (classIn b (s .offset))) (rw (eq-eqb (s .offset) 0 e) at h)
 
-  later-host : recordFault known b s ≡ 0 → (s .offset ≡ 0 → ⊥) → isHost (classIn b (s .offset)) ≡ false
+  later-host : recordFault known b s ≡ 0 → (s .offset ≡ 0 → ⊥) → isA class.Host (classIn b (s .offset)) ≡ false
   later-host z e =
       let h = shape-host known b (classIn b (s .offset)) (s .offset) (s .events) (none-applies z 0 (lit< tt)) in
       rw (ne-eqb (s .offset) 0 e) at h
@@ -75,7 +77,7 @@ module _ (known : Class → Bool) (b : List ℕ) (s : Reading) where
       (λ q.
       let e = eqb-false (s .offset) 0 q in
       let h = p (omega (arith, e)) in
-      tested (isNode (classIn b (s .offset))) (λ k. rw (later-host z e, k) h) (λ k. rw (later-host z e, k) h))
+      tested (isA class.Node (classIn b (s .offset))) (λ k. rw (later-host z e, k) h) (λ k. rw (later-host z e, k) h))
 
   -- and the next record begins at 17 or later
   taken-behind : (s .offset ≡ 0) ⊎ (17 ≤ s .offset) → recordFault known b s ≡ 0 → 17 ≤ taken b s .offset
@@ -95,13 +97,13 @@ module _ (known : Class → Bool) (b : List ℕ) (s : Reading) (p : Within b s) 
   events-within =
       ⊎-elim
       (λ e.
-      tested (isEvent (classIn b (s .offset)))
+      tested (isA class.Event (classIn b (s .offset)))
       (λ k. rw (k, eq-eqb (s .events) 0 e) (⊎-elim (λ o. inl o) (λ o. inr (o, omega arith)) (p .here)))
       (λ k. rw k (inl e)))
       (λ e.
       let n : s .events ≡ 0 → ⊥ = λ q. omega (arith, e .0) in
       let l : s .events ≤ s .offset + sizeOf (byteIn b (s .offset)) = omega (arith, e .1) in
-      tested (isEvent (classIn b (s .offset))) (λ k. rw (k, ne-eqb (s .events) 0 n) (inr (e .0, l))) (λ k. rw k (inr (e .0, l))))
+      tested (isA class.Event (classIn b (s .offset))) (λ k. rw (k, ne-eqb (s .events) 0 n) (inr (e .0, l))) (λ k. rw k (inr (e .0, l))))
       (p .events)
 
   taken-within : Within b (taken b s)
@@ -122,7 +124,7 @@ module _ (known : Class → Bool) (b : List ℕ) where
       stored =
           in-has known b (λ s. StoredBy (s .tree)) (λ d. d .refusal ≡ 0 → StoredBy (d .tree))
           (λ s p i z. taken-stored known b s p) (λ s p e q. p) (λ s p i z q. absurd (z q))
-          (λ h e. refl) (λ h q. refl) (λ e q. refl)
+          (λ h e. none-stored noMemory) (λ h q. none-stored noMemory) (λ e q. none-stored noMemory)
 
   -- a file that is read has 1 to 65,536 bytes
   pub read-long : readIn known b .refusal ≡ 0 → length b ≤ 65536

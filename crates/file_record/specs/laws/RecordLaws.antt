@@ -8,7 +8,8 @@ use lib.Dec.{leb, eqb}
 use lib.ListN.{getD, List·getD-eq-default}
 use borrow.Author.Tests.{leb-true, eqb-true}
 use Rattle.rack.specs.laws.Bools.{both}
-use Rattle.file_record.specs.definitions.Record.{Form, noForm, forms, formOf, sizeOf, isHost}
+use Rattle.file_record.specs.declared.Class.the-variants as class
+use Rattle.file_record.specs.definitions.Record.{Form, noForm, forms, formOf, sizeOf, isA}
 
 -- a kind past 8 has no form
 pub no-form : (kind : ℕ) → 9 ≤ kind → noForm ≡ formOf kind
@@ -31,10 +32,10 @@ unfolding formOf every
 body-most kind = leb-true (formOf kind .body) 16 (every-at (λ x. leb (x .body) 16) forms kind refl refl)
 
 -- a host has 17 bytes
-pub host-size : (kind : ℕ) → isHost (formOf kind .class) ≡ true → sizeOf kind ≡ 17
+pub host-size : (kind : ℕ) → isA class.Host (formOf kind .class) ≡ true → sizeOf kind ≡ 17
 unfolding formOf every
 host-size kind h =
-    let e = every-at (λ x. not (isHost (x .class)) || eqb (x .body) 16) forms kind refl refl in
+    let e = every-at (λ x. not (isA class.Host (x .class)) || eqb (x .body) 16) forms kind refl refl in
     omega (arith, eqb-true (formOf kind .body) 16 (rw h at e))
 
 pub size-least : (kind : ℕ) → 1 ≤ sizeOf kind

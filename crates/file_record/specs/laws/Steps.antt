@@ -1,12 +1,12 @@
 -- The steps of a walk past one record.
 use mathlib.Core.Path.{_≡_, refl, sym, ap, _∙_}
 use mathlib.Core.Bool.{Bool, true, false, _&&_, true≢false, false≢true}
-use mathlib.Core.List.{List}
+use mathlib.Core.List.{List, [], _∷_}
 use Prim.Native.Nat.{ℕ, _+_, _≤_, _<_}
 use native.Mathlib.Omega.{arith}
 use lib.Dec.{lit<}
-use lib.ListN.{length}
-use borrow.Author.Tests.{eq-eqb, ltb-false, not-false}
+use lib.ListN.{length, getD}
+use borrow.Author.Tests.{eq-eqb, eqb-true, ltb-false, not-false}
 use Rattle.rack.specs.declared.Node.{Node}
 use Rattle.rack.specs.definitions.First.{_or_, first}
 use Rattle.rack.specs.laws.FirstLaws.{when-not, or-last, chain-found}
@@ -22,37 +22,30 @@ use Rattle.file_record.specs.declared.Class.the-variants as class
 use Rattle.file_record.specs.declared.Event.{Event}
 use Rattle.file_record.specs.declared.Walk.{Walk}
 use Rattle.file_record.specs.definitions.Number.{byteIn}
-use Rattle.file_record.specs.definitions.Record.{sizeOf, classIn, isHost, isNode, isEvent, isKnown, cutShort, hostIn, nodeIn}
+use Rattle.file_record.specs.definitions.Record.{sizeOf, classIn, classNumber, isA, isKnown, cutShort, hostIn, nodeIn}
 use Rattle.file_record.specs.definitions.Events.{eventIn, eventWrong}
 use Rattle.file_record.specs.definitions.Load.{Reading, hostWrong, shapeFaults, shapeFault, nodeFault, fieldFault, recordFault, taken}
 use Rattle.file_record.specs.definitions.Loads.{readingOf, Steps}
 
--- each test holds of one class alone
-is-host : (c : Class) → isHost c ≡ true → c ≡ class.Host
-is-host class.Unknown e = absurd (false≢true e)
-is-host class.Host e = refl
-is-host class.Node e = absurd (false≢true e)
-is-host class.Event e = absurd (false≢true e)
+-- a number is that of one class alone
+numbered : ℕ → Class
+numbered n = getD (class.Unknown ∷ class.Host ∷ class.Node ∷ class.Event ∷ []) n class.Unknown
 
-is-node : (c : Class) → isNode c ≡ true → c ≡ class.Node
-is-node class.Unknown e = absurd (false≢true e)
-is-node class.Host e = absurd (false≢true e)
-is-node class.Node e = refl
-is-node class.Event e = absurd (false≢true e)
-
-is-event : (c : Class) → isEvent c ≡ true → c ≡ class.Event
-is-event class.Unknown e = absurd (false≢true e)
-is-event class.Host e = absurd (false≢true e)
-is-event class.Node e = absurd (false≢true e)
-is-event class.Event e = refl
+is-a : (k c : Class) → isA k c ≡ true → c ≡ k
+unfolding numbered
+is-a k c e =
+    let q : classNumber c ≡ classNumber k = sym (eqb-true (classNumber k) (classNumber c) e) in
+    sym (number-of c) ∙ ap numbered {x = classNumber c} {y = classNumber k} q ∙ number-of k
+  where
+    number-of : (c : Class) → numbered (classNumber c) ≡ c
+    number-of class.Unknown = refl
+    number-of class.Host = refl
+    number-of class.Node = refl
+    number-of class.Event = refl
 
 -- the class at an offset, as a function has tested it
-module _ (b : List ℕ) (o : ℕ) {c : Class} {x : Bool} (is : c ≡ classIn b o) where
-  pub node-told : x ≡ isNode c → x ≡ true → isNode (classIn b o) ≡ true
-  node-told e h = rw (← is) (sym e ∙ h)
-
-  pub event-told : x ≡ isEvent c → x ≡ true → isEvent (classIn b o) ≡ true
-  event-told e h = rw (← is) (sym e ∙ h)
+pub class-told : (b : List ℕ) (o : ℕ) (k : Class) {c : Class} {x : Bool} → c ≡ classIn b o → x ≡ isA k c → x ≡ true → isA k (classIn b o) ≡ true
+class-told b o k is e h = rw (← is) (sym e ∙ h)
 
 -- a step that stops
 pub step-stops : {r : Walk} {table : List ℕ} {f fault : ℕ} {next : Reading} → r .refusal ≡ f → f ≡ fault → (f ≡ 0 → ⊥)
@@ -75,7 +68,7 @@ module _ (b : List ℕ) (o : ℕ) (t : Tree) where
 
 -- a record that is taken in
 module _ (b : List ℕ) (w : Walk) (table : List ℕ) {o : ℕ} (past : o ≡ w .offset + sizeOf (byteIn b (w .offset))) where
-  pub node-past : {after : List ℕ} {f : ℕ} → isNode (classIn b (w .offset)) ≡ true
+  pub node-past : {after : List ℕ} {f : ℕ} → isA class.Node (classIn b (w .offset)) ≡ true
       → (f ≡ nodeFault b (w .offset) (treeOf table)) × (f ≡ 0 → treeOf after ≡ grown (treeOf table) (nodeIn b (w .offset))) → f ≡ 0
       → Steps (record { refusal = 0; offset = o; events = w .events }) after (nodeFault b (w .offset) (treeOf table))
       (taken b (readingOf w table))
@@ -83,10 +76,10 @@ module _ (b : List ℕ) (w : Walk) (table : List ℕ) {o : ℕ} (past : o ≡ w 
   node-past k e z =
       record {
         refusal = sym z ∙ e .0;
-        reading = λ q. rw (is-node (classIn b (w .offset)) k, past, e .1 z);
+        reading = λ q. rw (is-a class.Node (classIn b (w .offset)) k, past, e .1 z);
       }
 
-  pub event-past : {e : Event} {x : Bool} {k : ℕ} → isEvent (classIn b (w .offset)) ≡ true → e ≡ eventIn b (w .offset)
+  pub event-past : {e : Event} {x : Bool} {k : ℕ} → isA class.Event (classIn b (w .offset)) ≡ true → e ≡ eventIn b (w .offset)
       → x ≡ eventWrong (treeOf table) e → x ≡ false → k ≡ w .events or w .offset
       → Steps (record { refusal = 0; offset = o; events = k }) table (fieldFault b (w .offset) (treeOf table))
       (taken b (readingOf w table))
@@ -94,17 +87,17 @@ module _ (b : List ℕ) (w : Walk) (table : List ℕ) {o : ℕ} (past : o ≡ w 
   event-past c e x z k =
       record {
         refusal = rw (← e, ← x, z);
-        reading = λ q. rw (is-event (classIn b (w .offset)) c, past, k);
+        reading = λ q. rw (is-a class.Event (classIn b (w .offset)) c, past, k);
       }
 
-  pub host-past : {after : List ℕ} {h : Range} → isHost (classIn b (w .offset)) ≡ true → h ≡ hostIn b (w .offset)
+  pub host-past : {after : List ℕ} {h : Range} → isA class.Host (classIn b (w .offset)) ≡ true → h ≡ hostIn b (w .offset)
       → treeOf after ≡ noTree h
       → Steps (record { refusal = 0; offset = o; events = w .events }) after 0 (taken b (readingOf w table))
   unfolding taken
   host-past c e t =
       record {
         refusal = refl;
-        reading = λ q. rw (is-host (classIn b (w .offset)) c, past, t, e);
+        reading = λ q. rw (is-a class.Host (classIn b (w .offset)) c, past, t, e);
       }
 
 -- 13 of an event
@@ -132,20 +125,20 @@ module _ (known : Class → Bool) (b : List ℕ) (s : Reading) {f : ℕ} {c : Cl
     unfolding recordFault first
     fault-event k = rw (eq-eqb _ 0 (sym shape-is ∙ none), k) (or-last (fieldFault b (s .offset) (s .tree)))
 
-    fault-host : isNode (classIn b (s .offset)) ≡ false → isEvent (classIn b (s .offset)) ≡ false → recordFault known b s ≡ 0
+    fault-host : isA class.Node (classIn b (s .offset)) ≡ false → isA class.Event (classIn b (s .offset)) ≡ false → recordFault known b s ≡ 0
     unfolding recordFault first
     fault-host k l = rw (eq-eqb _ 0 (sym shape-is ∙ none), k, l)
 
     module _ {r : Walk} {table : List ℕ} {next : Reading} {x : Bool} where
-      pub node-goes : x ≡ isNode c → x ≡ true → Steps r table (nodeFault b (s .offset) (s .tree)) next
+      pub node-goes : x ≡ isA class.Node c → x ≡ true → Steps r table (nodeFault b (s .offset) (s .tree)) next
           → Steps r table (recordFault known b s) next
-      node-goes e h p = rw (fault-node (is-node (classIn b (s .offset)) (rw is at (sym e ∙ h)))) p
+      node-goes e h p = rw (fault-node (is-a class.Node (classIn b (s .offset)) (rw is at (sym e ∙ h)))) p
 
-      pub event-goes : x ≡ isEvent c → x ≡ true → Steps r table (fieldFault b (s .offset) (s .tree)) next
+      pub event-goes : x ≡ isA class.Event c → x ≡ true → Steps r table (fieldFault b (s .offset) (s .tree)) next
           → Steps r table (recordFault known b s) next
-      event-goes e h p = rw (fault-event (is-event (classIn b (s .offset)) (rw is at (sym e ∙ h)))) p
+      event-goes e h p = rw (fault-event (is-a class.Event (classIn b (s .offset)) (rw is at (sym e ∙ h)))) p
 
-      pub host-goes : {y : Bool} → x ≡ isNode c → x ≡ false → y ≡ isEvent c → y ≡ false → Steps r table 0 next
+      pub host-goes : {y : Bool} → x ≡ isA class.Node c → x ≡ false → y ≡ isA class.Event c → y ≡ false → Steps r table 0 next
           → Steps r table (recordFault known b s) next
       host-goes e h i j p = rw (fault-host (rw is at (sym e ∙ h)) (rw is at (sym i ∙ j))) p
 
@@ -167,12 +160,12 @@ module _ (known : Class → Bool) (b : List ℕ) (c : Class) (o events : ℕ) (z
 
 -- what is known and is no node and no event is a host
 pub host-left : (known : Bool) (b : List ℕ) (o events : ℕ) {c : Class} {f : ℕ} {x y : Bool} → c ≡ classIn b o
-    → f ≡ shapeFault (isKnown known) b c o events → f ≡ 0 → x ≡ isNode c → x ≡ false → y ≡ isEvent c → y ≡ false
-    → isHost (classIn b o) ≡ true
+    → f ≡ shapeFault (isKnown known) b c o events → f ≡ 0 → x ≡ isA class.Node c → x ≡ false → y ≡ isA class.Event c → y ≡ false
+    → isA class.Host (classIn b o) ≡ true
 host-left known b o events {c} is s z e h i j =
     rw (← is) (left c (shape-known (isKnown known) b c o events (sym s ∙ z)) (sym e ∙ h) (sym i ∙ j))
   where
-    left : (c : Class) → isKnown known c ≡ true → isNode c ≡ false → isEvent c ≡ false → isHost c ≡ true
+    left : (c : Class) → isKnown known c ≡ true → isA class.Node c ≡ false → isA class.Event c ≡ false → isA class.Host c ≡ true
     left class.Unknown k n e = absurd (none known k)
       where
         none : (k : Bool) → k && false ≡ true → ⊥

@@ -1,7 +1,8 @@
 -- The text of each line, as document 01, 'The program', prints it.
-use Prim.Native.Nat.{ℕ}
+use mathlib.Core.Path.{_≡_}
+use Prim.Native.Nat.{ℕ, _+_}
 use mathlib.Core.List.{List, [], _∷_, _++_}
-use lib.ListN.{take}
+use lib.ListN.{length, take}
 use Rattle.claim_agent.specs.declared.Space.{Space}
 use Rattle.claim_agent.specs.declared.Space.the-variants.{Memory, Io, Configuration}
 use Rattle.route_bus.specs.declared.Outcome.{Outcome}
@@ -11,11 +12,16 @@ use Rattle.event_run.specs.declared.Ending.the-variants.{Data, Stored, Owner, H
 use Rattle.check_search.specs.declared.Report.{Report}
 use Rattle.check_search.specs.declared.Report.the-variants.{Pass, Fault}
 use Rattle.print_line.specs.declared.Line.{Line}
-use Rattle.print_line.specs.definitions.Text.{decimalOf, hexOf, dataWord, storedWord, ownerWord, hostWord, unclaimedWord, clashWord, silentWord, passWord, faultWord, abortWord, doneWord, targetWord, configWord, memoryWord, ioWord, refusedWord, atWord}
+use Rattle.print_line.specs.definitions.Text.{decimalOf, hexOf, codesOf}
 
 -- a line's text is its first `len` bytes
 unfoldable pub textOf : Line → List ℕ
 textOf l = take (l .len) (l .bytes)
+
+-- a text added at the end of a line
+pub record Added (l : Line) (s : List ℕ) (r : Line) : Type 0 where
+  pub next : r .len ≡ l .len + length s
+  pub text : textOf r ≡ textOf l ++ s
 
 -- a text and after it the fields, each after one space (32)
 unfoldable pub spaced : List ℕ → List (List ℕ) → List ℕ
@@ -28,33 +34,33 @@ lineOf first others = spaced first others ++ (10 ∷ [])
 
 -- 01: '`abort` (no crossing), `done` or `target`'
 abbrev pub outcomeWord : Outcome → List ℕ
-outcomeWord Abort = abortWord
-outcomeWord Done = doneWord
-outcomeWord Target = targetWord
+outcomeWord Abort = codesOf "abort"
+outcomeWord Done = codesOf "done"
+outcomeWord Target = codesOf "target"
 
 -- 01: '`config`/`memory`/`io`'
 abbrev pub spaceWord : Space → List ℕ
-spaceWord Configuration = configWord
-spaceWord Memory = memoryWord
-spaceWord Io = ioWord
+spaceWord Configuration = codesOf "config"
+spaceWord Memory = codesOf "memory"
+spaceWord Io = codesOf "io"
 
 -- 01: '`data` crossings and 8 hex digits; `stored` crossings; `owner` crossings, node, region, offset (16 hex digits); `host` crossings,
 -- offset from its first address (16 too); `unclaimed` crossings, holder, then `abort` (no crossing), `done` or `target`; `clash` crossings,
 -- holder, the first two claimants in agent order; `silent`'
 unfoldable pub endingFields : ℕ → Ending → List (List ℕ)
-endingFields crossings (Data value) = dataWord ∷ decimalOf crossings ∷ hexOf 8 value ∷ []
-endingFields crossings Stored = storedWord ∷ decimalOf crossings ∷ []
-endingFields crossings (Owner node region offset) = ownerWord ∷ decimalOf crossings ∷ decimalOf node ∷ decimalOf region ∷ hexOf 16 offset ∷ []
-endingFields crossings (Host offset) = hostWord ∷ decimalOf crossings ∷ hexOf 16 offset ∷ []
-endingFields crossings (Unclaimed holder outcome) = unclaimedWord ∷ decimalOf crossings ∷ decimalOf holder ∷ outcomeWord outcome ∷ []
-endingFields crossings (Clash holder first second) = clashWord ∷ decimalOf crossings ∷ decimalOf holder ∷ decimalOf first ∷ decimalOf second ∷ []
-endingFields crossings Silent = silentWord ∷ []
+endingFields crossings (Data value) = codesOf "data" ∷ decimalOf crossings ∷ hexOf 8 value ∷ []
+endingFields crossings Stored = codesOf "stored" ∷ decimalOf crossings ∷ []
+endingFields crossings (Owner node region offset) = codesOf "owner" ∷ decimalOf crossings ∷ decimalOf node ∷ decimalOf region ∷ hexOf 16 offset ∷ []
+endingFields crossings (Host offset) = codesOf "host" ∷ decimalOf crossings ∷ hexOf 16 offset ∷ []
+endingFields crossings (Unclaimed holder outcome) = codesOf "unclaimed" ∷ decimalOf crossings ∷ decimalOf holder ∷ outcomeWord outcome ∷ []
+endingFields crossings (Clash holder first second) = codesOf "clash" ∷ decimalOf crossings ∷ decimalOf holder ∷ decimalOf first ∷ decimalOf second ∷ []
+endingFields crossings Silent = codesOf "silent" ∷ []
 
 -- 01: '`pass`; `fault` holder, `config`/`memory`/`io`, value (16 hex digits), driver, two agents'
 unfoldable pub reportFields : Report → List (List ℕ)
-reportFields Pass = passWord ∷ []
+reportFields Pass = codesOf "pass" ∷ []
 reportFields (Fault holder space value driver first second) =
-    faultWord ∷ decimalOf holder ∷ spaceWord space ∷ hexOf 16 value ∷ decimalOf driver ∷ decimalOf first ∷ decimalOf second ∷ []
+    codesOf "fault" ∷ decimalOf holder ∷ spaceWord space ∷ hexOf 16 value ∷ decimalOf driver ∷ decimalOf first ∷ decimalOf second ∷ []
 
 -- 01: 'A line holds the event number from 1, an ending, and decimal fields', as `1 data 0 00101234` or `2 unclaimed 0 255 abort`
 abbrev pub endingLine : ℕ → ℕ → Ending → List ℕ
@@ -66,4 +72,4 @@ reportLine n r = lineOf (decimalOf n) (reportFields r)
 
 -- 01: 'A refused input prints only `refused N at O`'
 abbrev pub refusedLine : ℕ → ℕ → List ℕ
-refusedLine number offset = lineOf refusedWord (decimalOf number ∷ atWord ∷ decimalOf offset ∷ [])
+refusedLine number offset = lineOf (codesOf "refused") (decimalOf number ∷ codesOf "at" ∷ decimalOf offset ∷ [])

@@ -7,11 +7,7 @@ use mathlib.Core.List.{List, [], _∷_, _++_, append-assoc, append-nil}
 use lib.ListN.{length, set, length-append}
 use lib.Seq.{take-suc-set}
 use Rattle.print_line.specs.declared.Line.{Line}
-use Rattle.print_line.specs.definitions.Line.{textOf}
-
-pub record Added (l : Line) (s : List ℕ) (r : Line) : Type 0 where
-  pub next : r .len ≡ l .len + length s
-  pub text : textOf r ≡ textOf l ++ s
+use Rattle.print_line.specs.definitions.Line.{textOf, Added}
 
 -- nothing
 pub added-none : (l : Line) → Added l [] l

@@ -1,16 +1,14 @@
 -- The tree of a rack. Everything above is defined over `Tree`, which does not say how the nodes are stored.
 use mathlib.Core.Path.{_≡_}
 use mathlib.Core.Logic.{_⊎_}
-use Prim.Native.Nat.{ℕ, zero, suc, _+_, _<_, min, max}
+use Prim.Native.Nat.{ℕ, zero, suc, _+_, _<_, max}
 use mathlib.Core.Bool.{true, not, cond}
 use mathlib.Core.List.{List, [], _∷_}
-use lib.Dec.{ltb, eqb}
-use lib.ListN.{getD}
+use lib.Dec.{eqb}
 use Rattle.rack.specs.declared.Kind.{Kind}
 use Rattle.rack.specs.declared.Node.{Node}
 use Rattle.rack.specs.declared.Range.{Range}
-use Rattle.rack.specs.declared.Rack.{Rack}
-use Rattle.rack.specs.definitions.Node.{isBridge, spelt, noNode}
+use Rattle.rack.specs.definitions.Node.{isBridge}
 use Rattle.rack.specs.definitions.Count.{countOf}
 
 -- how many nodes there are, host memory, and each node by its number. Of each node a table stores its place in its image and the
@@ -47,51 +45,6 @@ deviceCount t = devicesBelow (t .node) (t .count)
 -- how many nodes the image holds that has nodes of a kind
 abbrev pub imageCount : Tree → Kind → ℕ
 imageCount t k = cond (isBridge k) (bridgeCount t) (deviceCount t)
-
--- 01: 'The root bus has depth 0, a bridge's bus one more than the bus it sits on', as one pass over the first n nodes finds it: what is
--- no earlier node has depth 0 as the root bus has
-unfoldable pub busDepth : (ℕ → Node) → ℕ → ℕ → ℕ
-busDepth node zero bus = 0
-busDepth node (suc n) bus = cond (eqb bus n) (busDepth node n (node n .parent) + 1) (busDepth node n bus)
-
--- the greatest of the bridges among the first n nodes
-unfoldable pub deepestOf : (ℕ → Node) → ℕ → ℕ
-deepestOf node zero = 0
-deepestOf node (suc n) = max (deepestOf node n) (cond (isBridge (node n .kind)) (busDepth node (n + 1) n) 0)
-
--- the tree of n nodes, with what is stored of them
-abbrev pub treeWith : Range → (ℕ → Node) → ℕ → Tree
-treeWith h node n =
-    record {
-      count = n;
-      hostMemory = h;
-      node = node;
-      place = λ i. cond (ltb i n) (placeOf node i) 0;
-      depthOf = busDepth node n;
-      deepest = deepestOf node n;
-    }
-
--- the first n nodes of a decoded rack
-unfoldable pub firstNodes : Rack → ℕ → ℕ → Node
-firstNodes rack n i = spelt (cond (ltb i n) (getD (rack .nodes) i noNode) noNode)
-
--- a tree with another count
-abbrev pub counting : ℕ → Tree → Tree
-counting n t =
-    record {
-      count = n;
-      hostMemory = t .hostMemory;
-      node = t .node;
-      place = t .place;
-      depthOf = t .depthOf;
-      deepest = t .deepest;
-    }
-
--- the tree of a decoded rack, which has room for 96 nodes
-abbrev pub tree : Rack → Tree
-tree rack =
-    let n = min 96 (rack .count) in
-    counting (rack .count) (treeWith (record { first = rack .first; last = rack .last }) (firstNodes rack n) n)
 
 -- the bus that a node sits on
 abbrev pub parentOf : Tree → ℕ → ℕ

@@ -9,10 +9,10 @@ use lib.Dec.{eqb}
 use borrow.Author.Tests.{ne-eqb, eqb-true, eqb-false}
 use Rattle.rack.specs.definitions.Node.{isBridge}
 use Rattle.rack.specs.laws.Bools.{tested}
-use Rattle.rack.specs.definitions.Tree.{Tree, host, parentOf, bridgesBelow, bridgesFrom, IsBus, busDepth, deepestOf, depthIn, depth, greatestOf, greatestDepth}
-use Rattle.rack.specs.laws.TreeLaws.{depth-none}
+use Rattle.rack.specs.definitions.Tree.{Tree, host, parentOf, bridgesBelow, bridgesFrom, IsBus, depthIn, depth, greatestOf, greatestDepth}
 use Rattle.rack.specs.laws.CountLaws.{left-suc, left-none}
 use Rattle.rack.specs.definitions.Refusal.{rackRefusal}
+use Rattle.rack_laws.specs.laws.OnePass.{busDepth, deepestOf, depth-none}
 use Rattle.rack_laws.specs.laws.Counts.{count-mono, count-past}
 use Rattle.rack_laws.specs.laws.Sound.{parent-is, bridges-le, nodes-le, not-host}
 

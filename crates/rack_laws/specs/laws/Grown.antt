@@ -1,4 +1,4 @@
--- A rack that is read node by node: each node that is not refused leaves an accepted rack, which stores what its nodes say.
+-- A rack that is read node by node: each node that is not refused leaves an accepted rack.
 use mathlib.Core.Path.{_≡_, refl, ap, _∙_}
 use mathlib.Core.Bool.{Bool, true, false, cond}
 use Prim.Native.Nat.{ℕ, _≤_, _<_}
@@ -16,10 +16,9 @@ use Rattle.rack.specs.laws.TreeLaws.{bridges-same, devices-same}
 use Rattle.rack.specs.definitions.First.{first, firstFrom}
 use Rattle.rack.specs.definitions.Refusal.{tooMany, badParent, highDevice, sameSlot, takenDevice, badRegion, nodeRefusal, rackRefusal}
 use Rattle.rack.specs.definitions.Grow.{noTree, nodesWith, grown}
-use Rattle.rack.specs.laws.GrowLaws.{with-earlier, with-bridges, with-devices, grown-with}
+use Rattle.rack.specs.laws.GrowLaws.{with-earlier, with-bridges, with-devices}
 use Rattle.rack_laws.specs.laws.Refusals.{accepted, accepts}
 use Rattle.rack_laws.specs.laws.Sound.{bridges-le, devices-le}
-use Rattle.rack_laws.specs.laws.Stored.{StoredBy}
 
 -- a rack without nodes is accepted
 pub none-accepted : (h : Range) → rackRefusal (noTree h) ≡ 0
@@ -97,8 +96,3 @@ module _ (t : Tree) (n : Node) where
   pub grown-full : rackRefusal t ≡ 0 → 96 ≤ t .count → nodeRefusal (nodesWith t n) (t .count) ≡ 6
   unfolding nodeRefusal first
   grown-full ok h = rw (full ok h)
-
-  -- and what is stored is what the nodes say
-  pub grown-stored : StoredBy t → StoredBy (grown t n)
-  unfolding grown
-  grown-stored by = ap (λ (u : Tree). grown u n) by ∙ grown-with (t .hostMemory) (t .node) (t .count) n

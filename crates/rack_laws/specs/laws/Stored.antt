@@ -1,21 +1,20 @@
--- What is stored of an accepted rack is what its nodes say.
+-- What is stored of an accepted rack.
 use mathlib.Core.Path.{_≡_, ap, _∙_}
 use Prim.Native.Nat.{ℕ, _<_, min}
 use native.Mathlib.Omega.{arith}
 use borrow.Author.Tests.{lt-ltb}
 use Rattle.rack.specs.declared.Rack.{Rack}
-use Rattle.rack.specs.definitions.Tree.{Tree, placeOf, busDepth, treeWith, tree}
+use Rattle.rack.specs.definitions.Tree.{Tree, placeOf}
+use Rattle.rack.specs.definitions.Grow.{counting, tree}
+use Rattle.rack.specs.laws.GrowLaws.{with-count}
 use Rattle.rack.specs.definitions.Stored.{Stored}
 use Rattle.rack.specs.definitions.Refusal.{rackRefusal}
+use Rattle.rack_laws.specs.laws.OnePass.{busDepth, StoredBy, with-stored}
 use Rattle.rack_laws.specs.laws.Sound.{nodes-le}
 use Rattle.rack_laws.specs.laws.Places.{below, apart}
 use Rattle.rack_laws.specs.laws.Depths.{depth-found, greatest-found}
 
--- a tree stores what its nodes say
-abbrev pub StoredBy : Tree → Type 0
-StoredBy t = t ≡ treeWith (t .hostMemory) (t .node) (t .count)
-
--- then, accepted, it stores what the layers above use
+-- a tree that stores what one pass finds stores, accepted, what the layers above use
 pub by-stored : (t : Tree) → StoredBy t → rackRefusal t ≡ 0 → Stored t
 by-stored t by ok =
     record {
@@ -35,4 +34,7 @@ by-stored t by ok =
 pub accepted-stored : (rack : Rack) → rackRefusal (tree rack) ≡ 0 → Stored (tree rack)
 accepted-stored rack ok =
     let e : min 96 (rack .count) ≡ rack .count = omega (arith, nodes-le (tree rack) ok) in
-    by-stored (tree rack) (rw e) ok
+    by-stored (tree rack) (rw e (counted (with-stored _ _ (rack .count)) (with-count _ _ (rack .count)))) ok
+  where
+    counted : {t : Tree} {n : ℕ} → StoredBy t → t .count ≡ n → StoredBy (counting n t)
+    counted {t} by c = rw (← c) by

@@ -14,7 +14,8 @@ use Rattle.rack.specs.declared.Node.{Node}
 use Rattle.rack.specs.declared.Rack.{Rack}
 use Rattle.rack.specs.laws.Bools.{either, both}
 use Rattle.rack.specs.definitions.Node.{isBridge, regionIn}
-use Rattle.rack.specs.definitions.Tree.{Tree, tree}
+use Rattle.rack.specs.definitions.Tree.{Tree}
+use Rattle.rack.specs.definitions.Grow.{tree}
 use Rattle.rack.specs.definitions.Refusal.{regionRange, regionsRange, badRegion, rackRefusal}
 use Rattle.rack_laws.specs.laws.Sound.{in-range}
 use Rattle.rack_laws.specs.laws.Stored.{accepted-stored}

@@ -5,11 +5,11 @@ use Rattle.file_record.proofs.record.no_kind.Tie as tie
 is-rack-requires : tie.Need-is-rack-requires
 is-rack-requires c κs = search needs
 
-is-event-requires : tie.Need-is-event-requires
-is-event-requires c κs = search needs
+is-a-requires : tie.Need-is-a-requires
+is-a-requires c κs = search needs
 
 returns : tie.Need-returns
 returns c = cc
 
 pub no-kind-spec : {M : Type 1} → statement M
-no-kind-spec = tie.close (tie.spec is-rack-requires is-event-requires returns)
+no-kind-spec = tie.close (tie.spec is-rack-requires is-a-requires returns)

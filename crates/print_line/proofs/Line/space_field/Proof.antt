@@ -1,3 +1,4 @@
+use Rattle.print_line.specs.definitions.Text.{codesOf}
 use borrow.Author.Needs.{needs}
 use Rattle.print_line.proofs.Line.space_field.Statement.{statement}
 use Rattle.print_line.proofs.Line.space_field.Tie as tie
@@ -30,12 +31,15 @@ word-field-requires-3 : tie.Need-word-field-requires-3
 word-field-requires-3 c κs = search needs
 
 returns : tie.Need-returns
+unfolding codesOf
 returns c = rw (c .before .before .enum-told .given .1) (c .word-field .ensures, search needs)
 
 returns-2 : tie.Need-returns-2
+unfolding codesOf
 returns-2 c = rw (c .before .before .enum-told2 .given .1) (c .word-field2 .ensures, search needs)
 
 returns-3 : tie.Need-returns-3
+unfolding codesOf
 returns-3 c = rw (c .before .before .enum-told3 .given .1) (c .word-field3 .ensures, search needs)
 
 pub space-field-spec : {M : Type 1} → statement M

@@ -1,9 +1,10 @@
+use Rattle.print_line.specs.definitions.Line.{Added}
 use borrow.Author.Needs.{needs}
 use Prim.Native.Nat.{_≤_, _+_, _-_}
 use mathlib.Core.Path.{_≡_}
 use native.Mathlib.Omega.{arith}
 use lib.ListN.{length, take}
-use Rattle.print_line.specs.laws.Added.{Added, added-none}
+use Rattle.print_line.specs.laws.Added.{added-none}
 use Rattle.print_line.proofs.Copied.{copied-more, copied-all}
 use Rattle.print_line.proofs.Line.word.Statement.{statement}
 use Rattle.print_line.proofs.Line.word.Tie as tie

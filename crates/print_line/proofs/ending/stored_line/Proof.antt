@@ -1,3 +1,4 @@
+use Rattle.print_line.specs.definitions.Text.{codesOf}
 use Rattle.print_line.proofs.Fields.{line-field, line-ended}
 use Rattle.print_line.specs.definitions.Line.{endingFields}
 use borrow.Author.Needs.{needs}
@@ -17,7 +18,7 @@ byte-requires : tie.Need-byte-requires
 byte-requires c κs = search needs
 
 returns : tie.Need-returns
-unfolding endingFields
+unfolding endingFields codesOf
 returns c = (search (line-field, line-ended, needs), search needs)
 
 pub stored-line-spec : {M : Type 1} → statement M

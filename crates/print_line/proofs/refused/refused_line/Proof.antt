@@ -1,3 +1,4 @@
+use Rattle.print_line.specs.definitions.Text.{codesOf}
 use Rattle.print_line.proofs.Fields.{line-first, line-field, line-ended}
 use borrow.Author.Needs.{needs}
 use Rattle.print_line.proofs.refused.refused_line.Statement.{statement}
@@ -28,6 +29,7 @@ byte-requires : tie.Need-byte-requires
 byte-requires c κs = search needs
 
 returns : tie.Need-returns
+unfolding codesOf
 returns c = (search (line-first, line-field, line-ended, needs), search needs)
 
 pub refused-line-spec : {M : Type 1} → statement M
