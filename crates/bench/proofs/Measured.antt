@@ -5,26 +5,25 @@ use native.Mathlib.Omega.{arith}
 use borrow.Author.Tests.{eq-eqb, ne-eqb}
 use Rattle.rack.specs.definitions.Tree.{Tree}
 use Rattle.rack.specs.definitions.Refusal.{rackRefusal}
-use Rattle.register_image.specs.definitions.Image.{Images}
+use Rattle.register_image.specs.definitions.Image.{Images, Result}
 use Rattle.route_bus.specs.declared.Access.{Access}
 use Rattle.route_bus.specs.declared.Route.{Route}
-use Rattle.route_bus.specs.definitions.End.{Out}
 use Rattle.route.specs.definitions.Route.{access}
 use Rattle.check_search.specs.declared.Report.{Report}
 use Rattle.check_search.specs.definitions.Check.{check}
 use Rattle.bench.specs.definitions.Shown.{shownOf, reading, valueOf, nothing, lastOf, checkRounds}
 
-abbrev gives : Route → Images → Out
-gives r v = record { route = r; after = v }
+abbrev gives : Route → Images → Result Route
+gives r v = record { answer = r; after = v }
 
 -- what a route shows, and the images that it leaves
 pub route-shown : (t : Tree) (im : Images) (i address : ℕ) {x : Access} {r : Route} {v : Images} {s : ℕ} → x ≡ reading address
     → gives r v ≡ access t im x i → s ≡ shownOf (r .crossings) (r .end)
-    → (s ≡ shownOf (access t im (reading address) i .route .crossings) (access t im (reading address) i .route .end))
+    → (s ≡ shownOf (access t im (reading address) i .answer .crossings) (access t im (reading address) i .answer .end))
     × (v ≡ access t im (reading address) i .after)
 route-shown t im i address ex eo es =
     let e = eo ∙ ap (λ (x : Access). access t im x i) ex in
-    (es ∙ ap (λ (o : Out). shownOf (o .route .crossings) (o .route .end)) e, ap (λ (o : Out). o .after) e)
+    (es ∙ ap (λ (o : Result Route). shownOf (o .answer .crossings) (o .answer .end)) e, ap (λ (o : Result Route). o .after) e)
 
 module _ (t : Tree) (im : Images) where
   pub refused-shown : (rounds : ℕ) {n : ℕ} → n ≡ rackRefusal t → (n ≡ 0 → ⊥) → nothing ≡ checkRounds t im rounds

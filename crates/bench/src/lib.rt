@@ -60,7 +60,7 @@ pub extern "C" fn bench_route(
     initiator: u8,
     address: u64,
 ) -> u64
-    ensures { λ r. ⌜ (r ≡ shownOf (access (treeOf (now (table .entry))) (images (now (bridges .entry)) (now (devices .entry))) (reading address) initiator .route .crossings) (access (treeOf (now (table .entry))) (images (now (bridges .entry)) (now (devices .entry))) (reading address) initiator .route .end)) × (images (now (bridges .exit)) (now (devices .exit)) ≡ access (treeOf (now (table .entry))) (images (now (bridges .entry)) (now (devices .entry))) (reading address) initiator .after) ⌝ }
+    ensures { λ r. ⌜ (r ≡ shownOf (access (treeOf (now (table .entry))) (images (now (bridges .entry)) (now (devices .entry))) (reading address) initiator .answer .crossings) (access (treeOf (now (table .entry))) (images (now (bridges .entry)) (now (devices .entry))) (reading address) initiator .answer .end)) × (images (now (bridges .exit)) (now (devices .exit)) ≡ access (treeOf (now (table .entry))) (images (now (bridges .entry)) (now (devices .entry))) (reading address) initiator .after) ⌝ }
 {
     let x = reading_at(address);
     let r = route::route::route_access(table, bridges, devices, x, initiator);

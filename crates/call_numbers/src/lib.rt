@@ -1,7 +1,7 @@
 // An answer as eight numbers: its own, its values, and zeros after them.
 ghost use mathlib.Core.Path.{_≡_};
 ghost use mathlib.Core.List.{[], _∷_};
-ghost use Rattle.route_bus.specs.definitions.Outcome.{outcomeNumber};
+ghost use Rattle.route_bus.specs.definitions.End.{outcomeNumber};
 ghost use Rattle.event_run.specs.definitions.Answers.{endingNumber, endingValues};
 ghost use Rattle.check_search.specs.definitions.Report.{reportNumber, reportValues};
 ghost use Rattle.call_numbers.specs.definitions.Numbers.{eight, zeros, numbersOf, codeOf, replyNumbers, endsCode, endsNumbers};

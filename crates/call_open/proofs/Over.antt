@@ -3,12 +3,12 @@ use mathlib.Core.Path.{_≡_}
 use mathlib.Core.List.{List}
 use Prim.Native.Nat.{ℕ}
 use Rattle.rack.specs.definitions.Tree.{Tree}
-use Rattle.register_image.specs.definitions.Image.{Images}
+use Rattle.register_image.specs.definitions.Image.{Images, Result}
 use Rattle.file_record.specs.declared.Event.{Event}
 use Rattle.call_table.specs.declared.Reply.{Reply}
 use Rattle.call_table.specs.declared.Number.{Number}
 use Rattle.call_table.specs.declared.EndsReply.{EndsReply}
-use Rattle.call_table.specs.definitions.Call.{refusalBy, storeRefusal, readIn, storedIn, viewIn, sizeIn, endsIn, Replied, runIn, checkIn}
+use Rattle.call_table.specs.definitions.Call.{refusalBy, storeRefusal, readIn, storedIn, viewIn, sizeIn, endsIn, runIn, checkIn}
 
 module _ (t : Tree) {u : Tree} (e : u ≡ t) (im : Images) where
   pub read-over : (i register : ℕ) {r : Number} → r ≡ readIn u im i register → r ≡ readIn t im i register
@@ -31,7 +31,7 @@ module _ (t : Tree) {u : Tree} (e : u ≡ t) (im : Images) where
       → r ≡ storedIn t im i register enables put
   write-over i register enables put = rw e (λ q. q)
 
-  pub run-over : (x : Event) {r : Replied} → r ≡ runIn u im x → r ≡ runIn t im x
+  pub run-over : (x : Event) {r : Result Reply} → r ≡ runIn u im x → r ≡ runIn t im x
   run-over x = rw e (λ q. q)
 
   pub check-over : {r : Reply} → r ≡ checkIn u im → r ≡ checkIn t im

@@ -1,8 +1,8 @@
 // The open calls over a decoded rack and two lent images. None asks anything of its caller: each answers or refuses by number.
 ghost use mathlib.Core.Path.{_≡_};
 ghost use Rattle.rack.specs.definitions.Grow.{tree};
-ghost use Rattle.register_image.specs.definitions.Image.{images};
-ghost use Rattle.call_table.specs.definitions.Call.{refusalBy, readIn, storeRefusal, storedIn, viewIn, sizeIn, endsIn, replied, runIn, checkIn};
+ghost use Rattle.register_image.specs.definitions.Image.{images, result};
+ghost use Rattle.call_table.specs.definitions.Call.{refusalBy, readIn, storeRefusal, storedIn, viewIn, sizeIn, endsIn, runIn, checkIn};
 use call_table::EndsReply;
 use call_table::Number;
 use call_table::Reply;
@@ -78,7 +78,7 @@ pub fn window_ends<'a>(
 
 // An event of kinds 4 to 8, the check too.
 pub fn run_event(rack: Rack, bridges: &mut [u8], devices: &mut [u8], e: Event) -> Reply
-    ensures { λ r. ⌜ replied r (now (bridges .exit)) (now (devices .exit)) ≡ runIn (tree rack) (images (now (bridges .entry)) (now (devices .entry))) e ⌝ }
+    ensures { λ r. ⌜ result r (now (bridges .exit)) (now (devices .exit)) ≡ runIn (tree rack) (images (now (bridges .entry)) (now (devices .entry))) e ⌝ }
 {
     let table = table_of(rack);
     call_table::runs::run_on(&table, bridges, devices, e)

@@ -8,12 +8,11 @@ use Rattle.rack.specs.definitions.Tree.{Tree}
 use Rattle.rack.specs.definitions.Refusal.{rackRefusal}
 use Rattle.rack.specs.definitions.First.{_when_, unless}
 use Rattle.rack.specs.laws.FirstLaws.{or-this, or-next, or-none, unless-number, unless-none}
-use Rattle.register_image.specs.definitions.Image.{Images}
+use Rattle.register_image.specs.definitions.Image.{Images, Result}
 use Rattle.register_image.specs.definitions.Fixed.{imageRefusal}
 use Rattle.register_header.specs.definitions.Register.{readRegister}
 use Rattle.claim_agent.specs.declared.Ends.{Ends}
 use Rattle.event_run.specs.declared.Answer.{Answer}
-use Rattle.event_run.specs.definitions.Answers.{Answered}
 use Rattle.call_table.specs.declared.Reply.the-variants as reply
 use Rattle.call_table.specs.declared.Number.the-variants as number
 use Rattle.call_table.specs.declared.EndsReply.{EndsReply}
@@ -64,8 +63,8 @@ read-of register ep ev = ap number.Value (ev ∙ ap (λ (p : List ℕ). readRegi
 pub ends-of : {x y : Ends} {b : EndsReply} → x ≡ y → b ≡ endsReply x → b ≡ endsReply y
 ends-of ex eb = eb ∙ ap endsReply ex
 
-pub ran-of : {a : Answer} {v : Images} {q : Answered} → record { answer = a; after = v } ≡ q
-    → record { reply = reply.Answered a; after = v } ≡ ran q
+pub ran-of : {a : Answer} {v : Images} {q : Result Answer} → record { answer = a; after = v } ≡ q
+    → record { answer = reply.Answered a; after = v } ≡ ran q
 ran-of e = ap ran e
 
 -- 13 of a field: what the code has looked up is the tree's

@@ -1,8 +1,8 @@
 // The run of an event, and of a check, over the table of a rack.
 ghost use mathlib.Core.Path.{_≡_};
 ghost use Rattle.rack.specs.definitions.Table.{treeOf};
-ghost use Rattle.register_image.specs.definitions.Image.{images};
-ghost use Rattle.call_table.specs.definitions.Call.{replied, runIn, checkIn};
+ghost use Rattle.register_image.specs.definitions.Image.{images, result};
+ghost use Rattle.call_table.specs.definitions.Call.{runIn, checkIn};
 use crate::Reply;
 use crate::refusal::event_refusal;
 use crate::refusal::refusal_by;
@@ -13,7 +13,7 @@ use rack::table::Table;
 
 // An event over a table: refused by 6 to 13, or run.
 pub fn run_on(table: &Table, bridges: &mut [u8], devices: &mut [u8], e: Event) -> Reply
-    ensures { λ r. ⌜ replied r (now (bridges .exit)) (now (devices .exit)) ≡ runIn (treeOf (now (table .entry))) (images (now (bridges .entry)) (now (devices .entry))) e ⌝ }
+    ensures { λ r. ⌜ result r (now (bridges .exit)) (now (devices .exit)) ≡ runIn (treeOf (now (table .entry))) (images (now (bridges .entry)) (now (devices .entry))) e ⌝ }
 {
     let own = event_refusal(table, e);
     let refusal = refusal_by(table, bridges, devices, own);

@@ -4,24 +4,23 @@ use mathlib.Core.Bool.{true, false}
 use Prim.Native.Nat.{ℕ}
 use Rattle.rack.specs.definitions.Tree.{Tree}
 use Rattle.register_header.specs.definitions.Register.{readRegister}
-use Rattle.register_image.specs.definitions.Image.{Images, view, writeNode}
+use Rattle.register_image.specs.definitions.Image.{Images, Result, view, writeNode}
 use Rattle.claim_agent.specs.declared.Space.the-variants as space
 use Rattle.route_bus.specs.declared.Access.{Access}
 use Rattle.route_bus.specs.declared.End.{End}
 use Rattle.route_bus.specs.declared.End.the-variants as end
 use Rattle.route_bus.specs.declared.Route.{Route}
-use Rattle.route_bus.specs.definitions.End.{Out}
 use Rattle.check_search.specs.declared.Report.{Report}
 use Rattle.check_search.specs.definitions.Check.{check}
 use Rattle.file_record.specs.declared.Event.{Event}
 use Rattle.file_record.specs.declared.Event.the-variants.{Write, Read, Memory, Io, Check}
 use Rattle.event_run.specs.declared.Ending.the-variants.{Data, Stored}
+use Rattle.event_run.specs.declared.Answer.{Answer}
 use Rattle.event_run.specs.declared.Answer.the-variants.{Checked}
-use Rattle.event_run.specs.definitions.Answers.{Answered}
 use Rattle.event_run.specs.definitions.Run.{configuration, addressed, answers, registerOf, endedAt, ended, configured, accessed, eventRun}
 
-abbrev gives : Route → Images → Out
-gives r v = record { route = r; after = v }
+abbrev gives : Route → Images → Result Route
+gives r v = record { answer = r; after = v }
 
 -- a register of the node that was reached
 module _ (t : Tree) (im : Images) (x : Access) (crossings g : ℕ) where
@@ -35,16 +34,16 @@ module _ (t : Tree) (im : Images) (x : Access) (crossings g : ℕ) where
   unfolding registerOf
   reads w e = rw w (ap (λ (k : ℕ). answers crossings (Data k) im) e)
 
-  pub reaches : (e : End) {a : Answered} → e ≡ end.Node g → a ≡ registerOf t im x crossings g → a ≡ endedAt t im x crossings e
+  pub reaches : (e : End) {a : Result Answer} → e ≡ end.Node g → a ≡ registerOf t im x crossings g → a ≡ endedAt t im x crossings e
   unfolding endedAt
   reaches e ee ea = rw ee ea
 
 -- an access, from its route
-pub routed : (t : Tree) (x : Access) {r : Route} {v : Images} {o : Out} {a : Answered} → gives r v ≡ o
+pub routed : (t : Tree) (x : Access) {r : Route} {v : Images} {o : Result Route} {a : Result Answer} → gives r v ≡ o
     → a ≡ endedAt t v x (r .crossings) (r .end) → a ≡ ended t x o
 routed t x e q = q ∙ ap (ended t x) e
 
-module _ (t : Tree) (im : Images) (e : Event) {x : Access} {a : Answered} where
+module _ (t : Tree) (im : Images) (e : Event) {x : Access} {a : Result Answer} where
   pub write-answered : {bus devfn register enables put : ℕ} → e ≡ Write bus devfn register enables put
       → x ≡ configuration true bus devfn register enables put → a ≡ configured t im x → a ≡ eventRun t im e
   unfolding eventRun

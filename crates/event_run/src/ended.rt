@@ -2,8 +2,7 @@
 ghost use mathlib.Core.Path.{_≡_};
 ghost use Rattle.rack.specs.definitions.Table.{treeOf};
 ghost use Rattle.register_header.specs.definitions.Register.{readRegister};
-ghost use Rattle.register_image.specs.definitions.Image.{images, view};
-ghost use Rattle.event_run.specs.definitions.Answers.{answered};
+ghost use Rattle.register_image.specs.definitions.Image.{images, result, view};
 ghost use Rattle.event_run.specs.definitions.Run.{registerOf, endedAt};
 use crate::Answer;
 use crate::Ending;
@@ -27,7 +26,7 @@ fn register_of(
     crossings: u32,
     g: u8,
 ) -> Answer
-    ensures { λ r. ⌜ answered r (now (bridges .exit)) (now (devices .exit)) ≡ registerOf (treeOf (now (table .entry))) (images (now (bridges .entry)) (now (devices .entry))) x crossings g ⌝ }
+    ensures { λ r. ⌜ result r (now (bridges .exit)) (now (devices .exit)) ≡ registerOf (treeOf (now (table .entry))) (images (now (bridges .entry)) (now (devices .entry))) x crossings g ⌝ }
 {
     if x.write {
         register_image::image::write_node(
@@ -60,7 +59,7 @@ pub(crate) fn ended_at(
     crossings: u32,
     end: End,
 ) -> Answer
-    ensures { λ r. ⌜ answered r (now (bridges .exit)) (now (devices .exit)) ≡ endedAt (treeOf (now (table .entry))) (images (now (bridges .entry)) (now (devices .entry))) x crossings end ⌝ }
+    ensures { λ r. ⌜ result r (now (bridges .exit)) (now (devices .exit)) ≡ endedAt (treeOf (now (table .entry))) (images (now (bridges .entry)) (now (devices .entry))) x crossings end ⌝ }
 {
     let ending = match end {
         End::Node(g) => return register_of(table, bridges, devices, x, crossings, g),

@@ -2,8 +2,7 @@
 ghost use mathlib.Core.Path.{_≡_};
 ghost use Rattle.rack.specs.definitions.Table.{treeOf};
 ghost use Rattle.rack.specs.definitions.Refusal.{rackRefusal};
-ghost use Rattle.register_image.specs.definitions.Image.{images};
-ghost use Rattle.event_run.specs.definitions.Answers.{answered};
+ghost use Rattle.register_image.specs.definitions.Image.{images, result};
 ghost use Rattle.event_run.specs.definitions.Run.{configuration, addressed, configured, accessed, eventRun};
 use crate::Answer;
 use crate::ended::ended_at;
@@ -45,7 +44,7 @@ fn addressed_at(space: Space, direction: u8, address: u64) -> Access
 
 // A configuration access is routed and served.
 fn configured_by(table: &Table, bridges: &mut [u8], devices: &mut [u8], x: Access) -> Answer
-    ensures { λ r. ⌜ answered r (now (bridges .exit)) (now (devices .exit)) ≡ configured (treeOf (now (table .entry))) (images (now (bridges .entry)) (now (devices .entry))) x ⌝ }
+    ensures { λ r. ⌜ result r (now (bridges .exit)) (now (devices .exit)) ≡ configured (treeOf (now (table .entry))) (images (now (bridges .entry)) (now (devices .entry))) x ⌝ }
 {
     let r = route_configuration(table, bridges, devices, x);
     let end = r.end;
@@ -60,7 +59,7 @@ fn accessed_by(
     x: Access,
     initiator: u8,
 ) -> Answer
-    ensures { λ r. ⌜ answered r (now (bridges .exit)) (now (devices .exit)) ≡ accessed (treeOf (now (table .entry))) (images (now (bridges .entry)) (now (devices .entry))) x initiator ⌝ }
+    ensures { λ r. ⌜ result r (now (bridges .exit)) (now (devices .exit)) ≡ accessed (treeOf (now (table .entry))) (images (now (bridges .entry)) (now (devices .entry))) x initiator ⌝ }
 {
     let r = route_access(table, bridges, devices, x, initiator);
     let end = r.end;
@@ -70,7 +69,7 @@ fn accessed_by(
 // The answer to an event, and what it leaves in both images.
 pub fn answer_event(table: &Table, bridges: &mut [u8], devices: &mut [u8], e: Event) -> Answer
     requires { ⌜ rackRefusal (treeOf (now table)) ≡ 0 ⌝ }
-    ensures { λ r. ⌜ answered r (now (bridges .exit)) (now (devices .exit)) ≡ eventRun (treeOf (now (table .entry))) (images (now (bridges .entry)) (now (devices .entry))) e ⌝ }
+    ensures { λ r. ⌜ result r (now (bridges .exit)) (now (devices .exit)) ≡ eventRun (treeOf (now (table .entry))) (images (now (bridges .entry)) (now (devices .entry))) e ⌝ }
 {
     match e {
         Event::Write {

@@ -8,7 +8,7 @@ use Rattle.rack.specs.definitions.Tree.{Tree}
 use Rattle.rack.specs.definitions.Table.{treeOf}
 use Rattle.rack.specs.definitions.First.{_when_, _or_, unless}
 use Rattle.rack.specs.laws.FirstLaws.{or-this, or-next, unless-number, unless-none}
-use Rattle.register_image.specs.definitions.Image.{Images, images}
+use Rattle.register_image.specs.definitions.Image.{Images, images, result}
 use Rattle.register_image.specs.definitions.Fixed.{lengthsWrong}
 use Rattle.register_image.specs.definitions.Reset.{resetImages}
 use Rattle.file_record.specs.declared.Event.{Event}
@@ -18,7 +18,7 @@ use Rattle.file_record.specs.definitions.Load.{rackAlone}
 use Rattle.file_record.specs.definitions.Loads.{Loads}
 use Rattle.call_table.specs.declared.Reply.{Reply}
 use Rattle.call_table.specs.declared.EndsReply.{EndsReply}
-use Rattle.call_table.specs.definitions.Call.{replied, runIn, checkIn, endsIn}
+use Rattle.call_table.specs.definitions.Call.{runIn, checkIn, endsIn}
 use Rattle.call_numbers.specs.definitions.Numbers.{zeros, codeOf, replyNumbers, endsCode, endsNumbers}
 use Rattle.muzgante.specs.definitions.Called.{called, refusedCall, repliedCall, endsCall, rackRun, rackCheck, rackWindow, resetRefusal, rackReset}
 
@@ -56,7 +56,7 @@ module _ (b : List ℕ) {l : Loaded} where
       run-without-event ne er en = told bs ds er en ∙ sym (is-refused (then loads good eb) _ _ ne)
 
       pub run-made : n ≡ 0 → (im : Images) {e : Event} {p : Reply} → e ≡ eventIn event 0
-          → replied p bs ds ≡ runIn (treeOf (l .table)) im e → r ≡ codeOf p → ns ≡ replyNumbers p
+          → result p bs ds ≡ runIn (treeOf (l .table)) im e → r ≡ codeOf p → ns ≡ replyNumbers p
           → called r ns bs ds ≡ rackRun b event im
       unfolding rackRun
       run-made z im ee ea er en =
@@ -72,7 +72,7 @@ module _ (b : List ℕ) {l : Loaded} where
         → called r ns bs ds ≡ rackCheck b (images bs ds)
     unfolding rackCheck
     check-made good ea er en =
-        rw (er, en) (ap (λ (p : Reply). repliedCall (replied p bs ds)) (rw (held loads good) at ea))
+        rw (er, en) (ap (λ (p : Reply). repliedCall (result p bs ds)) (rw (held loads good) at ea))
         ∙ sym (is-given (loads .refusal) _ _ good)
 
     pub window-without-rack : (i k : ℕ) → (l .refusal ≡ 0 → ⊥) → r ≡ l .refusal → ns ≡ zeros

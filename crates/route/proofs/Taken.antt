@@ -10,7 +10,7 @@ use Rattle.rack.specs.definitions.Tree.{Tree, parentOf}
 use Rattle.register_header.specs.definitions.PciRegs.{COMMAND, COMMAND-MASTER}
 use Rattle.register_header.specs.declared.Side.the-variants.{Primary}
 use Rattle.register_header.specs.declared.StatusBit.the-variants.{ReceivedTargetAbort}
-use Rattle.register_image.specs.definitions.Image.{Images, view, statusNode}
+use Rattle.register_image.specs.definitions.Image.{Images, Result, view, statusNode}
 use Rattle.route_bus.specs.declared.Access.{Access}
 use types.Run.{OneOf}
 use denote.Enum.Declared as declared
@@ -22,18 +22,18 @@ use Rattle.route_bus.specs.declared.End.the-variants.{Unclaimed, Silent}
 use Rattle.route_bus.specs.declared.Route.{Route}
 use Rattle.route_bus.specs.declared.Sight.{Sight}
 use Rattle.route_bus.specs.declared.Sight.the-variants.{Ends, Crosses}
-use Rattle.route_bus.specs.definitions.End.{Out, Seen, ends, ifUnclaimed}
+use Rattle.route_bus.specs.definitions.End.{ends, ifUnclaimed}
 use Rattle.route_bus.specs.definitions.Look.{look}
 use Rattle.route_bus.specs.definitions.Cross.{otherBus, turnsType0, crossed}
 use Rattle.route_bus.proofs.Ended.{others, not-unclaimed}
 use Rattle.route.specs.definitions.Route.{busStep, bridgeStep, possible, from, received, returned, driven, access}
 use Rattle.route.specs.laws.StepLaws.{bus-ends-left, bus-on, bus-spent, bridge-on, bus-le}
 
-abbrev sees : Sight → Images → Seen
-sees s v = record { sight = s; after = v }
+abbrev sees : Sight → Images → Result Sight
+sees s v = record { answer = s; after = v }
 
-abbrev gives : Route → Images → Out
-gives r v = record { route = r; after = v }
+abbrev gives : Route → Images → Result Route
+gives r v = record { answer = r; after = v }
 
 module _ (t : Tree) (im : Images) (x : Access) (bus driver : ℕ) (type0 : Bool) (left : ℕ) {s : Sight} {v : Images}
     (el : sees s v ≡ look t im x bus driver type0) where
@@ -46,17 +46,17 @@ module _ (t : Tree) (im : Images) (x : Access) (bus driver : ℕ) (type0 : Bool)
   pub step-spent : {g : ℕ} → s ≡ Crosses g → left ≡ 0 → ends Silent v ≡ busStep (left + left + 1) t im x bus driver type0
   step-spent e z = sym (bus-spent t im x bus driver type0 left (seen-as e) z)
 
-  pub step-on : {g : ℕ} {o : Out} → s ≡ Crosses g → (left ≡ 0 → ⊥) → o ≡ bridgeStep (left - 1 + (left - 1) + 2) t v x bus g
+  pub step-on : {g : ℕ} {o : Result Route} → s ≡ Crosses g → (left ≡ 0 → ⊥) → o ≡ bridgeStep (left - 1 + (left - 1) + 2) t v x bus g
       → o ≡ busStep (left + left + 1) t im x bus driver type0
   step-on e z eo = eo ∙ sym (bus-on t im x bus driver type0 left (seen-as e) z)
 
 pub step-across : (t : Tree) (im : Images) (x : Access) (bus g left : ℕ) {other : ℕ} {type0 : Bool} {r : Route}
-    {v : Images} {o : Out} → other ≡ otherBus t bus g → type0 ≡ turnsType0 t im x bus g
+    {v : Images} {o : Result Route} → other ≡ otherBus t bus g → type0 ≡ turnsType0 t im x bus g
     → gives r v ≡ busStep (left + left + 1) t im x other g type0 → o ≡ crossed t v x bus g r
     → o ≡ bridgeStep (left + left + 2) t im x bus g
 step-across t im x bus g left eb et es eo =
     eo
-    ∙ ap (λ (k : Out). crossed t (k .after) x bus g (k .route))
+    ∙ ap (λ (k : Result Route). crossed t (k .after) x bus g (k .answer))
     (es ∙ ap₂ (λ (b : ℕ) (y : Bool). busStep (left + left + 1) t im x b g y) eb et)
     ∙ sym (bridge-on t im x bus g left)
 
@@ -64,10 +64,10 @@ step-across t im x bus g left eb et es eo =
 pub few-crossed : (t : Tree) (im : Images) (x : Access) (bus driver : ℕ) (type0 : Bool) (left : ℕ) {r : Route} {v : Images}
     → gives r v ≡ busStep (left + left + 1) t im x bus driver type0 → left < 4096 → r .crossings < 4096
 few-crossed t im x bus driver type0 left e l =
-    omega (arith, bus-le t x left im bus driver type0, ap (λ (o : Out). o .route .crossings) e)
+    omega (arith, bus-le t x left im bus driver type0, ap (λ (o : Result Route). o .answer .crossings) e)
 
 -- a route with the crossings that are possible
-pub from-possible : (t : Tree) (im : Images) (x : Access) (bus driver : ℕ) (type0 : Bool) {left : ℕ} {o : Out}
+pub from-possible : (t : Tree) (im : Images) (x : Access) (bus driver : ℕ) (type0 : Bool) {left : ℕ} {o : Result Route}
     → left ≡ possible t bus → o ≡ busStep (left + left + 1) t im x bus driver type0 → o ≡ from t im x bus driver type0
 from-possible t im x bus driver type0 e eo = eo ∙ ap (λ (k : ℕ). busStep (k + k + 1) t im x bus driver type0) e
 
@@ -92,18 +92,18 @@ pub device-driven : (t : Tree) (im : Images) (x : Access) (i : ℕ) {bus : ℕ} 
     → bus ≡ parentOf t i → gives r v ≡ from t im x bus i false → w ≡ returned t v i (r .end) → gives r w ≡ driven t im x i
 device-driven t im x i {r = r} eb es ew =
     ap (gives r) ew
-    ∙ ap (λ (k : Out). gives (k .route) (returned t (k .after) i (k .route .end)))
+    ∙ ap (λ (k : Result Route). gives (k .answer) (returned t (k .after) i (k .answer .end)))
     (es ∙ ap (λ (b : ℕ). from t im x b i false) eb)
 
 -- an access of the host, and of a device that drives or does not
-pub access-host : (t : Tree) (im : Images) (x : Access) (i : ℕ) {o : Out} → i ≡ 255 → o ≡ from t im x 255 255 false
+pub access-host : (t : Tree) (im : Images) (x : Access) (i : ℕ) {o : Result Route} → i ≡ 255 → o ≡ from t im x 255 255 false
     → o ≡ access t im x i
 unfolding access
 access-host t im x i e eo = rw (eq-eqb i 255 e) eo
 
 module _ (t : Tree) (im : Images) (x : Access) (i : ℕ) {command : ℕ} {on : Bool} (ne : i ≡ 255 → ⊥)
     (ec : command ≡ getD (view t im i) COMMAND 0) (eo : on ≡ bitAt command COMMAND-MASTER) where
-  pub access-driven : {o : Out} → on ≡ true → o ≡ driven t im x i → o ≡ access t im x i
+  pub access-driven : {o : Result Route} → on ≡ true → o ≡ driven t im x i → o ≡ access t im x i
   unfolding access
   access-driven e es = rw (ne-eqb i 255 ne, ← ec, ← eo, e) es
 

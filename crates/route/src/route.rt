@@ -2,8 +2,7 @@
 ghost use mathlib.Core.Path.{_≡_};
 ghost use Prim.Native.Nat.{_+_, _<_};
 ghost use Rattle.rack.specs.definitions.Table.{treeOf};
-ghost use Rattle.register_image.specs.definitions.Image.{images};
-ghost use Rattle.route_bus.specs.definitions.End.{out};
+ghost use Rattle.register_image.specs.definitions.Image.{images, result};
 ghost use Rattle.route.specs.definitions.Route.{busStep, bridgeStep, possible, from, configure, received, returned, driven, access};
 use rack::table::Table;
 use rack::table::deepest;
@@ -36,7 +35,7 @@ fn bus_step(
     left: usize,
 ) -> Route
     requires { ⌜ left < 4096 ⌝ }
-    ensures { λ r. ⌜ out r (now (bridges .exit)) (now (devices .exit)) ≡ busStep (left + left + 1) (treeOf (now (table .entry))) (images (now (bridges .entry)) (now (devices .entry))) x bus driver type0 ⌝ }
+    ensures { λ r. ⌜ result r (now (bridges .exit)) (now (devices .exit)) ≡ busStep (left + left + 1) (treeOf (now (table .entry))) (images (now (bridges .entry)) (now (devices .entry))) x bus driver type0 ⌝ }
 {
     let s = look_on(table, bridges, devices, x, bus, driver, type0);
     match s {
@@ -65,7 +64,7 @@ fn bridge_step(
     left: usize,
 ) -> Route
     requires { ⌜ left < 4096 ⌝ }
-    ensures { λ r. ⌜ out r (now (bridges .exit)) (now (devices .exit)) ≡ bridgeStep (left + left + 2) (treeOf (now (table .entry))) (images (now (bridges .entry)) (now (devices .entry))) x bus g ⌝ }
+    ensures { λ r. ⌜ result r (now (bridges .exit)) (now (devices .exit)) ≡ bridgeStep (left + left + 2) (treeOf (now (table .entry))) (images (now (bridges .entry)) (now (devices .entry))) x bus g ⌝ }
 {
     let other = other_bus(table, bus, g);
     let type0 = turns_type0(table, bridges, devices, x, bus, g);
@@ -89,7 +88,7 @@ fn route_from(
     driver: u8,
     type0: bool,
 ) -> Route
-    ensures { λ r. ⌜ out r (now (bridges .exit)) (now (devices .exit)) ≡ from (treeOf (now (table .entry))) (images (now (bridges .entry)) (now (devices .entry))) x bus driver type0 ⌝ }
+    ensures { λ r. ⌜ result r (now (bridges .exit)) (now (devices .exit)) ≡ from (treeOf (now (table .entry))) (images (now (bridges .entry)) (now (devices .entry))) x bus driver type0 ⌝ }
 {
     let left = possible_from(table, bus);
     bus_step(table, bridges, devices, x, bus, driver, type0, left)
@@ -102,7 +101,7 @@ pub fn route_configuration(
     devices: &mut [u8],
     x: Access,
 ) -> Route
-    ensures { λ r. ⌜ out r (now (bridges .exit)) (now (devices .exit)) ≡ configure (treeOf (now (table .entry))) (images (now (bridges .entry)) (now (devices .entry))) x ⌝ }
+    ensures { λ r. ⌜ result r (now (bridges .exit)) (now (devices .exit)) ≡ configure (treeOf (now (table .entry))) (images (now (bridges .entry)) (now (devices .entry))) x ⌝ }
 {
     route_from(table, bridges, devices, x, 255, 255, x.address == 0)
 }
@@ -137,7 +136,7 @@ fn return_to(table: &Table, bridges: &mut [u8], devices: &mut [u8], i: u8, e: En
 
 // The access of a device that drives: from the bus it sits on.
 fn route_device(table: &Table, bridges: &mut [u8], devices: &mut [u8], x: Access, i: u8) -> Route
-    ensures { λ r. ⌜ out r (now (bridges .exit)) (now (devices .exit)) ≡ driven (treeOf (now (table .entry))) (images (now (bridges .entry)) (now (devices .entry))) x i ⌝ }
+    ensures { λ r. ⌜ result r (now (bridges .exit)) (now (devices .exit)) ≡ driven (treeOf (now (table .entry))) (images (now (bridges .entry)) (now (devices .entry))) x i ⌝ }
 {
     let bus = rack::table::parent_at(table, i);
     let r = route_from(table, bridges, devices, x, bus, i, false);
@@ -154,7 +153,7 @@ pub fn route_access(
     x: Access,
     i: u8,
 ) -> Route
-    ensures { λ r. ⌜ out r (now (bridges .exit)) (now (devices .exit)) ≡ access (treeOf (now (table .entry))) (images (now (bridges .entry)) (now (devices .entry))) x i ⌝ }
+    ensures { λ r. ⌜ result r (now (bridges .exit)) (now (devices .exit)) ≡ access (treeOf (now (table .entry))) (images (now (bridges .entry)) (now (devices .entry))) x i ⌝ }
 {
     if i == 255 {
         return route_from(table, bridges, devices, x, 255, 255, false);

@@ -11,7 +11,7 @@ use Rattle.rack.specs.definitions.Tree.{Tree}
 use Rattle.register_header.specs.definitions.PciRegs.{BRIDGE-CONTROL, BRIDGE-CTL-MASTER-ABORT}
 use Rattle.register_header.specs.declared.Side.{Side}
 use Rattle.register_header.specs.declared.StatusBit.the-variants.{ReceivedTargetAbort, SignaledTargetAbort}
-use Rattle.register_image.specs.definitions.Image.{Images, view, statusNode}
+use Rattle.register_image.specs.definitions.Image.{Images, Result, view, statusNode}
 use Rattle.route_bus.specs.declared.Access.{Access}
 use Rattle.route_bus.specs.declared.Outcome.{Outcome}
 use Rattle.route_bus.specs.declared.Outcome.the-variants.{Abort, Done, Target}
@@ -19,16 +19,16 @@ use Rattle.route_bus.proofs.End as end
 use Rattle.route_bus.specs.declared.End.{End}
 use Rattle.route_bus.specs.declared.End.the-variants.{Unclaimed}
 use Rattle.route_bus.specs.declared.Route.{Route}
-use Rattle.route_bus.specs.definitions.End.{Out, ifUnclaimed}
+use Rattle.route_bus.specs.definitions.End.{ifUnclaimed}
 use Rattle.route_bus.specs.definitions.Look.{sideOn}
-use Rattle.route_bus.specs.definitions.Cross.{Passed, isPosted, towardsLater, lastOutcome, signalled, lastImages, passed, crossed}
+use Rattle.route_bus.specs.definitions.Cross.{isPosted, towardsLater, lastOutcome, signalled, lastImages, passed, crossed}
 use Rattle.route_bus.proofs.Ended.{others, not-unclaimed}
 
-abbrev made : Outcome → Images → Passed
-made o v = record { outcome = o; after = v }
+abbrev made : Outcome → Images → Result Outcome
+made o v = record { answer = o; after = v }
 
-abbrev routed : ℕ → End → Images → Out
-routed c e v = record { route = record { crossings = c; end = e }; after = v }
+abbrev routed : ℕ → End → Images → Result Route
+routed c e v = record { answer = record { crossings = c; end = e }; after = v }
 
 module _ (t : Tree) (im : Images) (x : Access) (g : ℕ) {posted : Bool} (ep : posted ≡ isPosted (x .space) (x .write)) where
   pub last-posted : posted ≡ true → Done ≡ lastOutcome t im x g
@@ -84,4 +84,4 @@ module _ (t : Tree) (im : Images) (x : Access) (bus g : ℕ) where
       → made w v ≡ passed t im x bus g o → routed (r .crossings + 1) (Unclaimed holder w) v ≡ crossed t im x bus g r
   unfolding crossed ifUnclaimed
   crossed-unclaimed r {holder} e p =
-      rw e (ap (λ (k : Passed). routed (r .crossings + 1) (Unclaimed holder (k .outcome)) (k .after)) p)
+      rw e (ap (λ (k : Result Outcome). routed (r .crossings + 1) (Unclaimed holder (k .answer)) (k .after)) p)

@@ -3,9 +3,8 @@ ghost use mathlib.Core.Path.{_≡_};
 ghost use Prim.Native.Nat.{_+_, _<_};
 ghost use lib.ListN.{getD};
 ghost use Rattle.rack.specs.definitions.Table.{treeOf};
-ghost use Rattle.register_image.specs.definitions.Image.{images, view};
-ghost use Rattle.route_bus.specs.definitions.End.{out};
-ghost use Rattle.route_bus.specs.definitions.Cross.{otherBus, isConfiguration, turnsType0, isPosted, towardsLater, lastOutcome, signalled, lastImages, passing, passed, crossed};
+ghost use Rattle.register_image.specs.definitions.Image.{images, result, view};
+ghost use Rattle.route_bus.specs.definitions.Cross.{otherBus, isConfiguration, turnsType0, isPosted, towardsLater, lastOutcome, signalled, lastImages, passed, crossed};
 use claim_agent::Space;
 use rack::table::Table;
 use rack::table::node_at;
@@ -146,7 +145,7 @@ fn passed_by(
     g: u8,
     o: Outcome,
 ) -> Outcome
-    ensures { λ r. ⌜ passing r (now (bridges .exit)) (now (devices .exit)) ≡ passed (treeOf (now (table .entry))) (images (now (bridges .entry)) (now (devices .entry))) x bus g o ⌝ }
+    ensures { λ r. ⌜ result r (now (bridges .exit)) (now (devices .exit)) ≡ passed (treeOf (now (table .entry))) (images (now (bridges .entry)) (now (devices .entry))) x bus g o ⌝ }
 {
     match o {
         Outcome::Abort => {
@@ -182,7 +181,7 @@ pub fn crossed_by(
     r: Route,
 ) -> Route
     requires { ⌜ r .crossings < 4096 ⌝ }
-    ensures { λ s. ⌜ out s (now (bridges .exit)) (now (devices .exit)) ≡ crossed (treeOf (now (table .entry))) (images (now (bridges .entry)) (now (devices .entry))) x bus g r ⌝ }
+    ensures { λ s. ⌜ result s (now (bridges .exit)) (now (devices .exit)) ≡ crossed (treeOf (now (table .entry))) (images (now (bridges .entry)) (now (devices .entry))) x bus g r ⌝ }
 {
     let crossings = r.crossings + 1;
     let end = r.end;

@@ -6,7 +6,7 @@ use borrow.Author.Tests.{eq-eqb, ne-eqb}
 use Rattle.rack.specs.definitions.Tree.{Tree}
 use Rattle.register_header.specs.declared.Side.{Side}
 use Rattle.register_header.specs.declared.StatusBit.the-variants.{ReceivedMasterAbort}
-use Rattle.register_image.specs.definitions.Image.{Images, statusNode}
+use Rattle.register_image.specs.definitions.Image.{Images, Result, statusNode}
 use Rattle.claim_agent.specs.declared.Claimants.{Claimants}
 use Rattle.claim_agent.specs.declared.Claimants.the-variants.{Nobody, One, Two}
 use Rattle.claim_agent.specs.definitions.Claimants.{claimants, firstTwo}
@@ -15,11 +15,10 @@ use Rattle.route_bus.specs.declared.Outcome.the-variants.{Abort}
 use Rattle.route_bus.specs.declared.End.the-variants.{Node, Unclaimed, Clash}
 use Rattle.route_bus.specs.declared.Sight.{Sight}
 use Rattle.route_bus.specs.declared.Sight.the-variants.{Ends}
-use Rattle.route_bus.specs.definitions.End.{Seen}
 use Rattle.route_bus.specs.definitions.Look.{sideOn, masterAbort, unclaimed, owned, claimed, target, direct, look}
 
-abbrev sees : Sight → Images → Seen
-sees s v = record { sight = s; after = v }
+abbrev sees : Sight → Images → Result Sight
+sees s v = record { answer = s; after = v }
 
 module _ (t : Tree) (im : Images) (bus driver : ℕ) where
   pub abort-host : driver ≡ 255 → im ≡ masterAbort t im bus driver
@@ -37,7 +36,7 @@ module _ (t : Tree) (im : Images) (bus driver : ℕ) where
 
 module _ (t : Tree) (im : Images) (x : Access) (bus driver : ℕ) where
   module _ {g : ℕ} (eg : g ≡ target t bus (x .devfn)) where
-    pub direct-none : {v : Seen} → g ≡ 255 → v ≡ unclaimed t im bus driver → v ≡ direct t im x bus driver
+    pub direct-none : {v : Result Sight} → g ≡ 255 → v ≡ unclaimed t im bus driver → v ≡ direct t im x bus driver
     unfolding direct
     direct-none e ev = rw (← eg, eq-eqb g 255 e) ev
 
@@ -46,7 +45,7 @@ module _ (t : Tree) (im : Images) (x : Access) (bus driver : ℕ) where
     direct-node ne = rw (← eg, ne-eqb g 255 ne)
 
   module _ {c : Claimants} where
-    pub claimed-none : {v : Seen} → c ≡ Nobody → v ≡ unclaimed t im bus driver → v ≡ claimed t im x bus driver c
+    pub claimed-none : {v : Result Sight} → c ≡ Nobody → v ≡ unclaimed t im bus driver → v ≡ claimed t im x bus driver c
     unfolding claimed
     claimed-none e ev = rw e ev
 
@@ -58,7 +57,7 @@ module _ (t : Tree) (im : Images) (x : Access) (bus driver : ℕ) where
     unfolding claimed
     claimed-two e = rw e
 
-  module _ {type0 : Bool} {v : Seen} where
+  module _ {type0 : Bool} {v : Result Sight} where
     pub look-direct : type0 ≡ true → v ≡ direct t im x bus driver → v ≡ look t im x bus driver type0
     unfolding look
     look-direct e ev = rw e ev

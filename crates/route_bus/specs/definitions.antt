@@ -1,4 +1,3 @@
-pub mod Outcome
 pub mod End
 pub mod Look
 pub mod Cross

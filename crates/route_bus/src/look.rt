@@ -4,8 +4,7 @@ ghost use Prim.Native.Nat.{_-_, _/_};
 ghost use mathlib.Core.Bool.{_&&_};
 ghost use lib.Dec.{eqb};
 ghost use Rattle.rack.specs.definitions.Table.{treeOf, nodeAt};
-ghost use Rattle.register_image.specs.definitions.Image.{images};
-ghost use Rattle.route_bus.specs.definitions.End.{seen};
+ghost use Rattle.register_image.specs.definitions.Image.{images, result};
 ghost use Rattle.route_bus.specs.definitions.Look.{isIo, sideOn, masterAbort, unclaimed, owned, claimed, target, direct, look};
 use crate::Access;
 use crate::End;
@@ -69,7 +68,7 @@ fn master_abort(table: &Table, bridges: &mut [u8], devices: &mut [u8], bus: u8, 
 }
 
 fn unclaimed_on(table: &Table, bridges: &mut [u8], devices: &mut [u8], bus: u8, driver: u8) -> Sight
-    ensures { λ r. ⌜ seen r (now (bridges .exit)) (now (devices .exit)) ≡ unclaimed (treeOf (now (table .entry))) (images (now (bridges .entry)) (now (devices .entry))) bus driver ⌝ }
+    ensures { λ r. ⌜ result r (now (bridges .exit)) (now (devices .exit)) ≡ unclaimed (treeOf (now (table .entry))) (images (now (bridges .entry)) (now (devices .entry))) bus driver ⌝ }
 {
     master_abort(table, bridges, devices, bus, driver);
     Sight::Ends(End::Unclaimed {
@@ -111,7 +110,7 @@ fn claimed_by(
     driver: u8,
     c: Claimants,
 ) -> Sight
-    ensures { λ r. ⌜ seen r (now (bridges .exit)) (now (devices .exit)) ≡ claimed (treeOf (now (table .entry))) (images (now (bridges .entry)) (now (devices .entry))) x bus driver c ⌝ }
+    ensures { λ r. ⌜ result r (now (bridges .exit)) (now (devices .exit)) ≡ claimed (treeOf (now (table .entry))) (images (now (bridges .entry)) (now (devices .entry))) x bus driver c ⌝ }
 {
     match c {
         Claimants::Nobody => unclaimed_on(table, bridges, devices, bus, driver),
@@ -158,7 +157,7 @@ fn direct_on(
     bus: u8,
     driver: u8,
 ) -> Sight
-    ensures { λ r. ⌜ seen r (now (bridges .exit)) (now (devices .exit)) ≡ direct (treeOf (now (table .entry))) (images (now (bridges .entry)) (now (devices .entry))) x bus driver ⌝ }
+    ensures { λ r. ⌜ result r (now (bridges .exit)) (now (devices .exit)) ≡ direct (treeOf (now (table .entry))) (images (now (bridges .entry)) (now (devices .entry))) x bus driver ⌝ }
 {
     let g = target_of(table, bus, x.devfn);
     if g == 255 {
@@ -177,7 +176,7 @@ pub fn look_on(
     driver: u8,
     type0: bool,
 ) -> Sight
-    ensures { λ r. ⌜ seen r (now (bridges .exit)) (now (devices .exit)) ≡ look (treeOf (now (table .entry))) (images (now (bridges .entry)) (now (devices .entry))) x bus driver type0 ⌝ }
+    ensures { λ r. ⌜ result r (now (bridges .exit)) (now (devices .exit)) ≡ look (treeOf (now (table .entry))) (images (now (bridges .entry)) (now (devices .entry))) x bus driver type0 ⌝ }
 {
     if type0 {
         return direct_on(table, bridges, devices, x, bus, driver);

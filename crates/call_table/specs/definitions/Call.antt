@@ -8,7 +8,7 @@ use Rattle.rack.specs.definitions.First.{_when_, _or_, unless}
 use Rattle.rack.specs.definitions.Tree.{Tree}
 use Rattle.rack.specs.definitions.Refusal.{rackRefusal}
 use Rattle.register_header.specs.definitions.Register.{readRegister}
-use Rattle.register_image.specs.definitions.Image.{Images, images, view, writeNode}
+use Rattle.register_image.specs.definitions.Image.{Images, Result, view, writeNode}
 use Rattle.register_image.specs.definitions.Fixed.{imageRefusal}
 use Rattle.register_image.specs.definitions.Sizing.{sizeRegion}
 use Rattle.claim_agent.specs.declared.Ends.{Ends}
@@ -17,8 +17,8 @@ use Rattle.claim_agent.specs.definitions.Ends.{windowEnds}
 use Rattle.check_search.specs.definitions.Check.{check}
 use Rattle.file_record.specs.declared.Event.{Event}
 use Rattle.file_record.specs.definitions.Events.{eventWrong, registerWrong, writeWrong}
+use Rattle.event_run.specs.declared.Answer.{Answer}
 use Rattle.event_run.specs.declared.Answer.the-variants.{Checked}
-use Rattle.event_run.specs.definitions.Answers.{Answered}
 use Rattle.event_run.specs.definitions.Run.{eventRun}
 use Rattle.call_table.specs.declared.Reply.{Reply}
 use Rattle.call_table.specs.declared.Reply.the-variants as reply
@@ -92,21 +92,14 @@ endsReply (ends.FirstLast first last) = ends-reply.FirstLast first last
 unfoldable pub endsIn : Tree → Images → ℕ → ℕ → EndsReply
 endsIn t im i k = unless (refusalBy t im (windowRefusal t i k)) (endsReply (windowEnds t im i k)) ends-reply.Refused
 
--- a refusal's number or an answer, with the images that it leaves
-pub record Replied : Type 0 where
-  pub reply : Reply
-  pub after : Images
-
-abbrev pub replied : Reply → List ℕ → List ℕ → Replied
-replied r b d = record { reply = r; after = images b d }
-
-abbrev pub ran : Answered → Replied
-ran a = record { reply = reply.Answered (a .answer); after = a .after }
+-- the answer to an event that was run, with the images that it leaves
+abbrev pub ran : Result Answer → Result Reply
+ran a = record { answer = reply.Answered (a .answer); after = a .after }
 
 -- an event, the check too; a refusal leaves both images untouched
-unfoldable pub runIn : Tree → Images → Event → Replied
+unfoldable pub runIn : Tree → Images → Event → Result Reply
 runIn t im e =
-    unless (refusalBy t im (eventRefusal t e)) (ran (eventRun t im e)) (λ n. record { reply = reply.Refused n; after = im })
+    unless (refusalBy t im (eventRefusal t e)) (ran (eventRun t im e)) (λ n. record { answer = reply.Refused n; after = im })
 
 -- the check alone: 'A check changes no register'
 unfoldable pub checkIn : Tree → Images → Reply

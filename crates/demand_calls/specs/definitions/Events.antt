@@ -2,16 +2,17 @@
 use Prim.Native.Nat.{ℕ, _^_, _≤_, _<_}
 use Rattle.file_record.specs.declared.Event.{Event}
 use Rattle.file_record.specs.declared.Event.the-variants.{Write, Read, Memory, Io, Check}
-use Rattle.event_run.specs.definitions.Answers.{answerNumber, crossingsOf, Answered}
+use Rattle.event_run.specs.declared.Answer.{Answer}
+use Rattle.event_run.specs.definitions.Answers.{answerNumber, crossingsOf}
 use Rattle.call_table.specs.declared.Reply.{Reply}
 use mathlib.Core.Path.{_≡_}
 use mathlib.Core.Bool.{true, false}
 use mathlib.Core.Logic.{_⊎_}
 use lib.Dec.{eqb}
 use Rattle.rack.specs.definitions.Tree.{Tree, host}
-use Rattle.register_image.specs.definitions.Image.{Images}
+use Rattle.register_image.specs.definitions.Image.{Images, Result}
 use Rattle.claim_agent.specs.declared.Space.the-variants as space
-use Rattle.route_bus.specs.definitions.End.{Out}
+use Rattle.route_bus.specs.declared.Route.{Route}
 use Rattle.event_run.specs.definitions.Run.{configuration, addressed, ended}
 use Rattle.call_table.specs.declared.Reply.the-variants as reply
 use Rattle.demand_passed.specs.definitions.Way.{Went, startOf, Silenced}
@@ -47,17 +48,17 @@ startBus t Check = host
 
 -- how an event that is run goes: never driven, or from one claimant to the next to an end unclaimed or at its one owner; a check
 -- goes nowhere
-abbrev pub Goes : Tree → Images → Event → Answered → Type 0
+abbrev pub Goes : Tree → Images → Event → Result Answer → Type 0
 Goes t im (Write bus devfn register enables put) r =
-    (o : Out) × (r ≡ ended t (configuration true bus devfn register enables put) o) × Went t im (configuration true bus devfn register enables put) host host (eqb bus 0) o
+    (o : Result Route) × (r ≡ ended t (configuration true bus devfn register enables put) o) × Went t im (configuration true bus devfn register enables put) host host (eqb bus 0) o
 Goes t im (Read bus devfn register) r =
-    (o : Out) × (r ≡ ended t (configuration false bus devfn register 0 0) o) × Went t im (configuration false bus devfn register 0 0) host host (eqb bus 0) o
+    (o : Result Route) × (r ≡ ended t (configuration false bus devfn register 0 0) o) × Went t im (configuration false bus devfn register 0 0) host host (eqb bus 0) o
 Goes t im (Memory i direction a) r =
-    (o : Out) × (r ≡ ended t (addressed space.Memory direction a) o)
-    × (Silenced t im i (o .route .end) ⊎ Went t im (addressed space.Memory direction a) (startOf t i) i false o)
+    (o : Result Route) × (r ≡ ended t (addressed space.Memory direction a) o)
+    × (Silenced t im i (o .answer .end) ⊎ Went t im (addressed space.Memory direction a) (startOf t i) i false o)
 Goes t im (Io i direction a) r =
-    (o : Out) × (r ≡ ended t (addressed space.Io direction a) o)
-    × (Silenced t im i (o .route .end) ⊎ Went t im (addressed space.Io direction a) (startOf t i) i false o)
+    (o : Result Route) × (r ≡ ended t (addressed space.Io direction a) o)
+    × (Silenced t im i (o .answer .end) ⊎ Went t im (addressed space.Io direction a) (startOf t i) i false o)
 Goes t im Check r = Unit {0}
 
 -- an event that writes no register

@@ -9,7 +9,7 @@ use native.Mathlib.Nat.{le-refl}
 use Rattle.rack.specs.laws.Bools.{tested}
 use Rattle.rack.specs.laws.FirstLaws.{or-next, unless-none}
 use Rattle.rack.specs.definitions.Tree.{depth, greatestDepth}
-use Rattle.register_image.specs.definitions.Image.{Images}
+use Rattle.register_image.specs.definitions.Image.{Images, Result}
 use Rattle.claim_laws.specs.definitions.Same.{SameButStatus}
 use Rattle.check_search.specs.declared.Report.the-variants.{Pass, Fault}
 use Rattle.file_record.specs.definitions.Number.{byteIn, dwordIn, qwordIn}
@@ -18,8 +18,8 @@ use Rattle.file_record.specs.definitions.Load.{rackAlone}
 use Rattle.file_record.specs.laws.LoadLaws.{alone-accepted, alone-stored}
 use Rattle.event_run.specs.declared.Ending.{Ending}
 use Rattle.event_run.specs.declared.Ending.the-variants.{Data, Stored, Owner, Host, Unclaimed, Clash, Silent}
+use Rattle.event_run.specs.declared.Answer.{Answer}
 use Rattle.event_run.specs.declared.Answer.the-variants.{Ended, Checked}
-use Rattle.event_run.specs.definitions.Answers.{Answered}
 use Rattle.call_table.specs.declared.Reply.{Reply}
 use Rattle.call_table.specs.declared.Reply.the-variants as reply
 use Rattle.call_table.specs.definitions.Call.{eventRefusal, ran, runIn, checkIn}
@@ -81,8 +81,8 @@ module _ (b event : List ℕ) (im : Images) where
       unless-none _ _ (or-next (rackAlone b .refusal) (eventBytes event) (s .0) ∙ s .1)
 
   said : rackRun b event im .code ≡ 0
-      → number (rackRun b event im) ≡ replyNumber (runIn (rackAlone b .tree) im (eventIn event 0) .reply)
-  said c = ap number (handed c) ∙ first (runIn (rackAlone b .tree) im (eventIn event 0) .reply)
+      → number (rackRun b event im) ≡ replyNumber (runIn (rackAlone b .tree) im (eventIn event 0) .answer)
+  said c = ap number (handed c) ∙ first (runIn (rackAlone b .tree) im (eventIn event 0) .answer)
 
   -- 'The crossings carried in its answer are at most the depth of the starting bus plus the greatest depth in the rack': the endings 1
   -- to 6 carry them as their second number
@@ -91,7 +91,7 @@ module _ (b event : List ℕ) (im : Images) where
       ≤ depth (rackAlone b .tree) (startBus (rackAlone b .tree) (eventIn event 0)) + greatestDepth (rackAlone b .tree)
   c-run-crossings c l =
       let t = rackAlone b .tree in
-      let a = runIn t im (eventIn event 0) .reply in
+      let a = runIn t im (eventIn event 0) .answer in
       let m : replyNumber a ≤ 6 = omega (arith, said c) in
       omega (arith, event-crossings t (λ ok. alone-stored b (run-refuses b event im .accepted c .0)) im (eventIn event 0), second a m, ap (λ (r : Called). getD (r .numbers) 1 0) (handed c))
 
@@ -106,7 +106,7 @@ module _ (b event : List ℕ) (im im' : Images) (pass : number (rackCheck b im) 
   -- 'every accepted configuration, memory or I/O access, whichever party starts it, is never driven, ends unclaimed, or ends at its one
   -- owner'
   pub c-run-goes : rackRun b event im' .code ≡ 0
-      → (r : Answered) × (rackRun b event im' ≡ repliedCall (ran r)) × Goes (rackAlone b .tree) im' (eventIn event 0) r
+      → (r : Result Answer) × (rackRun b event im' ≡ repliedCall (ran r)) × Goes (rackAlone b .tree) im' (eventIn event 0) r
   c-run-goes c =
       let t = rackAlone b .tree in
       let e = eventIn event 0 in

@@ -106,14 +106,14 @@ module _ (b : List ℕ) (im : Images) where
 
   -- rack_check, accepted: what the check says
   pub check-refuses : InOrder b 0 im 0
-      (repliedCall (record { reply = Answered (Checked (check (rackAlone b .tree) im)); after = im })) (rackCheck b im)
+      (repliedCall (record { answer = Answered (Checked (check (rackAlone b .tree) im)); after = im })) (rackCheck b im)
   unfolding rackCheck outcome checkIn
   check-refuses =
-      in-order b 0 im 0 (repliedCall (record { reply = Answered (Checked (check (rackAlone b .tree) im)); after = im })) refl
-      (ap (λ (n : ℕ). unless n (repliedCall (record { reply = checkIn (rackAlone b .tree) im; after = im })) (λ m. refusedCall m im))
+      in-order b 0 im 0 (repliedCall (record { answer = Answered (Checked (check (rackAlone b .tree) im)); after = im })) refl
+      (ap (λ (n : ℕ). unless n (repliedCall (record { answer = checkIn (rackAlone b .tree) im; after = im })) (λ m. refusedCall m im))
       (nothing (rackAlone b .refusal))
       ∙ ap (λ (a : Called). unless (rackAlone b .refusal or 0) a (λ n. refusedCall n im))
-      (made (λ (r : Reply). repliedCall (record { reply = r; after = im })) (refusalBy (rackAlone b .tree) im 0) _ _))
+      (made (λ (r : Reply). repliedCall (record { answer = r; after = im })) (refusalBy (rackAlone b .tree) im 0) _ _))
 
   -- 'A check changes no register'
   pub check-keeps : rackCheck b im .after ≡ im

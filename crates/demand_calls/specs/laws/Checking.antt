@@ -13,7 +13,7 @@ use Rattle.rack.specs.definitions.Node.{isBridge}
 use Rattle.rack.specs.definitions.Tree.{Tree, host}
 use Rattle.rack.specs.definitions.Stored.{Stored}
 use Rattle.rack.specs.definitions.Refusal.{rackRefusal}
-use Rattle.register_image.specs.definitions.Image.{Images}
+use Rattle.register_image.specs.definitions.Image.{Images, Result}
 use Rattle.register_image.specs.definitions.Fixed.{imageRefusal}
 use Rattle.claim_agent.specs.declared.Space.{Space}
 use Rattle.claim_agent.specs.declared.Space.the-variants as space
@@ -21,7 +21,7 @@ use Rattle.claim_laws.specs.definitions.Same.{SameButStatus}
 use Rattle.route_bus.specs.declared.Access.{Access}
 use Rattle.route_bus.specs.declared.End.{End}
 use Rattle.route_bus.specs.declared.End.the-variants as end
-use Rattle.route_bus.specs.definitions.End.{Out}
+use Rattle.route_bus.specs.declared.Route.{Route}
 use Rattle.route.specs.definitions.Route.{configure, access}
 use Rattle.check_search.specs.declared.Report.{Report}
 use Rattle.check_search.specs.declared.Report.the-variants.{Pass, Fault}
@@ -53,7 +53,7 @@ module _ (t : Tree) (im : Images) where
   check-refused ne = unless-number _ _ ne
 
   -- the check is the event of kind 8
-  pub check-is-event : checkIn t im ≡ runIn t im Check .reply
+  pub check-is-event : checkIn t im ≡ runIn t im Check .answer
   unfolding checkIn runIn eventWrong eventRun unless
   check-is-event = tested (eqb (refusalBy t im 0) 0) (λ q. rw q) (λ q. rw q)
 
@@ -122,8 +122,8 @@ ended-no-clash t im x c end.Silent q n = omega arith
 -- (`alone-stored`)
 module _ (t : Tree) (stored : rackRefusal t ≡ 0 → Stored t) (im im' : Images) (pass : checkIn t im ≡ Answered (Checked Pass))
     (same : SameButStatus t im im') where
-  routed-no-clash : (x : Access) (o : Out) → isClash (o .route .end) ≡ false → answerNumber (ended t x o .answer) ≡ 6 → ⊥
-  routed-no-clash x o = ended-no-clash t (o .after) x (o .route .crossings) (o .route .end)
+  routed-no-clash : (x : Access) (o : Result Route) → isClash (o .answer .end) ≡ false → answerNumber (ended t x o .answer) ≡ 6 → ⊥
+  routed-no-clash x o = ended-no-clash t (o .after) x (o .answer .crossings) (o .answer .end)
 
   run-no-clash : (e : Event) → Fits e → rackRefusal t ≡ 0 → Stored t → eventWrong t e ≡ false → check t im ≡ Pass
       → answerNumber (eventRun t im' e .answer) ≡ 6 → ⊥
@@ -148,7 +148,7 @@ module _ (t : Tree) (stored : rackRefusal t ≡ 0 → Stored t) (im im' : Images
 
   -- 'In a passed rack, with the registers it passed with, status bits aside, every accepted .. access .. never in a clash': no event
   -- answers with number 6
-  pub event-no-clash : (e : Event) → Fits e → replyNumber (runIn t im' e .reply) ≡ 6 → ⊥
+  pub event-no-clash : (e : Event) → Fits e → replyNumber (runIn t im' e .answer) ≡ 6 → ⊥
   event-no-clash e f n =
       tested (eqb (refusalBy t im' (eventRefusal t e)) 0)
       (λ q.

@@ -10,14 +10,14 @@ use Rattle.rack.specs.laws.Bools.{tested}
 use Rattle.rack.specs.definitions.Tree.{Tree, depth, greatestDepth}
 use Rattle.rack.specs.definitions.Stored.{Stored}
 use Rattle.rack.specs.definitions.Refusal.{rackRefusal}
-use Rattle.register_image.specs.definitions.Image.{Images}
+use Rattle.register_image.specs.definitions.Image.{Images, Result}
 use Rattle.register_laws.specs.laws.Accepted as images
 use Rattle.claim_agent.specs.declared.Space.the-variants as space
 use Rattle.claim_laws.specs.definitions.Same.{SameButStatus}
 use Rattle.route_bus.specs.declared.Access.{Access}
 use Rattle.route_bus.specs.declared.End.{End}
 use Rattle.route_bus.specs.declared.End.the-variants as end
-use Rattle.route_bus.specs.definitions.End.{Out}
+use Rattle.route_bus.specs.declared.Route.{Route}
 use Rattle.route.specs.definitions.Route.{configure, access}
 use Rattle.check_search.specs.declared.Report.the-variants.{Pass}
 use Rattle.check_search.specs.definitions.Check.{check}
@@ -25,8 +25,9 @@ use Rattle.demand_passed.specs.laws.PassedRack.{access-goes, configure-goes, ac
 use Rattle.file_record.specs.declared.Event.{Event}
 use Rattle.file_record.specs.declared.Event.the-variants.{Write, Read, Memory, Io, Check}
 use Rattle.file_record.specs.definitions.Events.{eventWrong}
+use Rattle.event_run.specs.declared.Answer.{Answer}
 use Rattle.event_run.specs.declared.Answer.the-variants.{Checked}
-use Rattle.event_run.specs.definitions.Answers.{crossingsOf, Answered}
+use Rattle.event_run.specs.definitions.Answers.{crossingsOf}
 use Rattle.event_run.specs.definitions.Run.{configuration, addressed, registerOf, endedAt, ended, eventRun}
 use Rattle.call_table.specs.declared.Reply.the-variants as reply
 use Rattle.call_table.specs.definitions.Call.{refusalBy, eventRefusal, ran, runIn, checkIn}
@@ -56,7 +57,7 @@ module _ (t : Tree) (stored : rackRefusal t ≡ 0 → Stored t) (im im' : Images
   -- 'In a passed rack, with the registers it passed with, status bits aside, every accepted configuration, memory or I/O access,
   -- whichever party starts it, is never driven, ends unclaimed, or ends at its one owner'
   pub event-goes : (e : Event) → Fits e → refusalBy t im' (eventRefusal t e) ≡ 0
-      → (r : Answered) × (runIn t im' e ≡ ran r) × Goes t im' e r
+      → (r : Result Answer) × (runIn t im' e ≡ ran r) × Goes t im' e r
   event-goes e f z =
       let a = accepted t im' (eventRefusal t e) z in
       (eventRun t im' e, event-runs t im' e z, run-goes e f (a .0) (stored (a .0)) (field-right (a .2)) (said t im Pass pass .1) (images.accepted t im' (a .1) .0))
@@ -72,8 +73,8 @@ ended-crossings t im x c (end.Clash k y z) = refl
 ended-crossings t im x c end.Silent = refl
 
 module _ (t : Tree) (stored : rackRefusal t ≡ 0 → Stored t) (im : Images) where
-  routed : (x : Access) (o : Out) (n : ℕ) → o .route .crossings ≤ n → crossingsOf (ended t x o .answer) ≤ n
-  routed x o n l = rw (ended-crossings t (o .after) x (o .route .crossings) (o .route .end)) l
+  routed : (x : Access) (o : Result Route) (n : ℕ) → o .answer .crossings ≤ n → crossingsOf (ended t x o .answer) ≤ n
+  routed x o n l = rw (ended-crossings t (o .after) x (o .answer .crossings) (o .answer .end)) l
 
   run-crossings : (e : Event) → rackRefusal t ≡ 0 → Stored t → eventWrong t e ≡ false
       → crossingsOf (eventRun t im e .answer) ≤ depth t (startBus t e) + greatestDepth t
@@ -92,7 +93,7 @@ module _ (t : Tree) (stored : rackRefusal t ≡ 0 → Stored t) (im : Images) wh
   run-crossings Check ok st w = omega arith
 
   -- 'The crossings carried in its answer are at most the depth of the starting bus plus the greatest depth in the rack'; passed or not
-  pub event-crossings : (e : Event) → crossings (runIn t im e .reply) ≤ depth t (startBus t e) + greatestDepth t
+  pub event-crossings : (e : Event) → crossings (runIn t im e .answer) ≤ depth t (startBus t e) + greatestDepth t
   event-crossings e =
       tested (eqb (refusalBy t im (eventRefusal t e)) 0)
       (λ q.

@@ -43,7 +43,7 @@ module _ (t : Tree) (st : Stored t) where
     accessed-same : (x : Access) (i : ℕ) → isConfiguration (x .space) ≡ false → SameButStatus t im (accessed t im x i .after)
     accessed-same x i other =
         let o = access t im x i in
-        rw (kept-after t (o .after) x (o .route .crossings) (o .route .end) (ap (λ b. x .write && b) (access-none t x other im i) ∙ and-false (x .write)))
+        rw (kept-after t (o .after) x (o .answer .crossings) (o .answer .end) (ap (λ b. x .write && b) (access-none t x other im i) ∙ and-false (x .write)))
         (access-same t st x im right i)
 
     run-same : (e : Event) → WritesNone e → SameButStatus t im (eventRun t im e .after)
@@ -52,7 +52,7 @@ module _ (t : Tree) (st : Stored t) where
     run-same (Read bus devfn register) none =
         let x = configuration false bus devfn register 0 0 in
         let o = configure t im x in
-        rw (kept-after t (o .after) x (o .route .crossings) (o .route .end) refl) (configure-same t st x im right)
+        rw (kept-after t (o .after) x (o .answer .crossings) (o .answer .end) refl) (configure-same t st x im right)
     run-same (Memory i direction a) none = accessed-same (addressed space.Memory direction a) i refl
     run-same (Io i direction a) none = accessed-same (addressed space.Io direction a) i refl
     run-same Check none = same-refl t im

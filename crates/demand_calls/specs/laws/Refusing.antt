@@ -118,7 +118,7 @@ module _ (t : Tree) (im : Images) where
 
   -- a refused event changes nothing and answers the refusal's number
   pub event-untouched : (e : Event) → (refusalBy t im (eventRefusal t e) ≡ 0 → ⊥)
-      → runIn t im e ≡ record { reply = reply.Refused (refusalBy t im (eventRefusal t e)); after = im }
+      → runIn t im e ≡ record { answer = reply.Refused (refusalBy t im (eventRefusal t e)); after = im }
   unfolding runIn
   event-untouched e ne = unless-number _ _ ne
 

@@ -11,12 +11,12 @@ use Rattle.rack.specs.laws.Bools.{tested}
 use Rattle.rack.specs.definitions.Tree.{Tree}
 use Rattle.rack.specs.definitions.Stored.{Stored}
 use Rattle.rack.specs.definitions.Refusal.{rackRefusal}
-use Rattle.register_image.specs.definitions.Image.{Images}
+use Rattle.register_image.specs.definitions.Image.{Images, Result}
 use Rattle.claim_agent.specs.declared.Space.the-variants as space
 use Rattle.route_bus.specs.declared.Access.{Access}
 use Rattle.route_bus.specs.declared.End.{End}
 use Rattle.route_bus.specs.declared.End.the-variants as end
-use Rattle.route_bus.specs.definitions.End.{Out}
+use Rattle.route_bus.specs.declared.Route.{Route}
 use Rattle.route.specs.definitions.Route.{drives, configure, access}
 use Rattle.route_laws.specs.laws.Silent.{isSilent, configure-driven, host-driven, access-driven}
 use Rattle.check_search.specs.declared.Report.{Report}
@@ -50,15 +50,15 @@ ended-silent t im x c end.Silent n = refl
 
 module _ (t : Tree) (ok : rackRefusal t ≡ 0) (st : Stored t) (im : Images) where
   -- of a route that is driven no answer is silent
-  driven-not : (x : Access) (o : Out) → isSilent (o .route .end) ≡ false → answerNumber (ended t x o .answer) ≡ 7 → ⊥
+  driven-not : (x : Access) (o : Result Route) → isSilent (o .answer .end) ≡ false → answerNumber (ended t x o .answer) ≡ 7 → ⊥
   driven-not x o d n =
-      true≢false (sym (ended-silent t (o .after) x (o .route .crossings) (o .route .end) n) ∙ d)
+      true≢false (sym (ended-silent t (o .after) x (o .answer .crossings) (o .answer .end) n) ∙ d)
 
   started-silent : (x : Access) (i : ℕ) → Initiator t i → answerNumber (ended t x (access t im x i) .answer) ≡ 7
       → (i < t .count) × (drives t im i ≡ false)
   started-silent x i (inl e) n =
       absurd
-      (driven-not x (access t im x i) (ap (λ (k : ℕ). isSilent (access t im x k .route .end)) e ∙ host-driven t ok x st im) n)
+      (driven-not x (access t im x i) (ap (λ (k : ℕ). isSilent (access t im x k .answer .end)) e ∙ host-driven t ok x st im) n)
   started-silent x i (inr d) n =
       tested (drives t im i) (λ q. absurd (driven-not x (access t im x i) (access-driven t ok x st im i (d .0) q) n)) (λ q. (d .0, q))
 
@@ -80,7 +80,7 @@ module _ (t : Tree) (ok : rackRefusal t ≡ 0) (st : Stored t) (im : Images) whe
 
 module _ (t : Tree) (stored : rackRefusal t ≡ 0 → Stored t) (im : Images) where
   -- 7 is the number of a silent answer
-  pub event-silent : (e : Event) → replyNumber (runIn t im e .reply) ≡ 7 → MayNotDrive t im e
+  pub event-silent : (e : Event) → replyNumber (runIn t im e .answer) ≡ 7 → MayNotDrive t im e
   event-silent e n =
       tested (eqb (refusalBy t im (eventRefusal t e)) 0)
       (λ q.

@@ -132,7 +132,7 @@ takenBy (Crosses k) g = eqb k g
 
 abbrev pub asType1 : List ℕ → ℕ → Bool
 asType1 part bus =
-    takenBy (look alone (images part []) (reading bus) host host false .sight) 0
+    takenBy (look alone (images part []) (reading bus) host host false .answer) 0
     && not (turnsType0 alone (images part []) (reading bus) host 0)
 
 -- a rack of such nodes

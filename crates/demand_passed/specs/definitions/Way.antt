@@ -8,7 +8,7 @@ use lib.Dec.{eqb}
 use lib.ListN.{length}
 use Rattle.rack.specs.definitions.Node.{isBridge}
 use Rattle.rack.specs.definitions.Tree.{Tree, host, parentOf}
-use Rattle.register_image.specs.definitions.Image.{Images, view}
+use Rattle.register_image.specs.definitions.Image.{Images, Result, view}
 use Rattle.claim_agent.specs.declared.Space.the-variants.{Memory, Io, Configuration}
 use Rattle.claim_agent.specs.definitions.Agent.{deviceOf}
 use Rattle.claim_agent.specs.definitions.Claimants.{claimants}
@@ -17,7 +17,7 @@ use Rattle.claim_laws.specs.definitions.Same.{SameButStatus}
 use Rattle.route_bus.specs.declared.Access.{Access}
 use Rattle.route_bus.specs.declared.End.{End}
 use Rattle.route_bus.specs.declared.End.the-variants.{Node, Owner, Host, Unclaimed, Clash, Silent}
-use Rattle.route_bus.specs.definitions.End.{Out}
+use Rattle.route_bus.specs.declared.Route.{Route}
 use Rattle.route_bus.specs.definitions.Look.{isIo}
 use Rattle.route_bus.specs.definitions.Cross.{otherBus, turnsType0}
 use Rattle.route.specs.definitions.Route.{drives}
@@ -97,7 +97,7 @@ module _ (t : Tree) (im : Images) (x : Access) where
       × Way (otherBus t bus g) g (turnsType0 t im x bus g) gs e u
 
   -- an access that has such a way, with as many crossings; the images that it leaves differ from those it found in status bits at most
-  abbrev pub Went : ℕ → ℕ → Bool → Out → Type 0
+  abbrev pub Went : ℕ → ℕ → Bool → Result Route → Type 0
   Went bus driver type0 o =
-      (gs : List ℕ) × (length gs ≡ o .route .crossings) × Way bus driver type0 gs (o .route .end) (o .after)
+      (gs : List ℕ) × (length gs ≡ o .answer .crossings) × Way bus driver type0 gs (o .answer .end) (o .after)
       × SameButStatus t im (o .after)

@@ -69,7 +69,7 @@ module _ (t : Tree) (ok : rackRefusal t ≡ 0) (st : Stored t) where
         (λ b d s o. claimants-as x b d Io (a .0) (one .io b s d o (x .address) (a .1))) drives-on bus driver false is on
 
     access-gone : (x : Access) → Address x → (i : ℕ) → Initiator t i
-        → Silenced t im' i (access t im' x i .route .end) ⊎ Gone t im' x (startOf t i) i false (access t im' x i)
+        → Silenced t im' i (access t im' x i .answer .end) ⊎ Gone t im' x (startOf t i) i false (access t im' x i)
     unfolding access startOf
     access-gone x a i (inl e) = inr (rw e (address-gone x a host host (inl refl) (inl refl)))
     access-gone x a i (inr d) =
@@ -86,18 +86,18 @@ module _ (t : Tree) (ok : rackRefusal t ≡ 0) (st : Stored t) where
         (refl, λ e. omega (arith, eqb-false (x .address) 0 e))
 
     -- 'and never in a clash'
-    pub access-no-clash : (x : Access) → Address x → (i : ℕ) → Initiator t i → isClash (access t im' x i .route .end) ≡ false
+    pub access-no-clash : (x : Access) → Address x → (i : ℕ) → Initiator t i → isClash (access t im' x i .answer .end) ≡ false
     access-no-clash x a i is =
         ⊎-elim (λ s. ap isClash (s .end)) (λ w. gone-no-clash t im' x (startOf t i) i false (access t im' x i) w) (access-gone x a i is)
 
-    pub configure-no-clash : (x : Access) → BusNumber x → isClash (configure t im' x .route .end) ≡ false
+    pub configure-no-clash : (x : Access) → BusNumber x → isClash (configure t im' x .answer .end) ≡ false
     configure-no-clash x n = gone-no-clash t im' x host host (eqb (x .address) 0) (configure t im' x) (configure-gone x n)
 
     module _ (right : lengthsWrong t im' ≡ false) where
       -- 'every accepted configuration, memory or I/O access, whichever party starts it, is never driven, ends unclaimed, or ends at its
       -- one owner'
       pub access-goes : (x : Access) → Address x → (i : ℕ) → Initiator t i
-          → Silenced t im' i (access t im' x i .route .end) ⊎ Went t im' x (startOf t i) i false (access t im' x i)
+          → Silenced t im' i (access t im' x i .answer .end) ⊎ Went t im' x (startOf t i) i false (access t im' x i)
       access-goes x a i is = ⊎-elim inl (λ w. inr (w .0, w .1, w .2, access-same t st x im' right i)) (access-gone x a i is)
 
       pub configure-goes : (x : Access) → BusNumber x → Went t im' x host host (eqb (x .address) 0) (configure t im' x)
@@ -105,7 +105,7 @@ module _ (t : Tree) (ok : rackRefusal t ≡ 0) (st : Stored t) where
 
 -- 'The crossings carried in its answer are at most the depth of the starting bus plus the greatest depth in the rack'
 module _ (t : Tree) (ok : rackRefusal t ≡ 0) (st : Stored t) (im : Images) (x : Access) where
-  pub access-crossings : (i : ℕ) → Initiator t i → access t im x i .route .crossings ≤ depth t (startOf t i) + greatestDepth t
+  pub access-crossings : (i : ℕ) → Initiator t i → access t im x i .answer .crossings ≤ depth t (startOf t i) + greatestDepth t
   unfolding access startOf
   access-crossings i (inl e) = rw e (crossings-le t ok x st im host host false (inl refl))
   access-crossings i (inr d) =
@@ -113,5 +113,5 @@ module _ (t : Tree) (ok : rackRefusal t ≡ 0) (st : Stored t) (im : Images) (x 
       tested (drives t im i)
       (λ b. rw (ne, b) (crossings-le t ok x st im (parentOf t i) i false (parent-bus t ok i (d .0)))) (λ b. rw (ne, b) (omega arith))
 
-  pub configure-crossings : configure t im x .route .crossings ≤ depth t host + greatestDepth t
+  pub configure-crossings : configure t im x .answer .crossings ≤ depth t host + greatestDepth t
   configure-crossings = omega (arith, configure-le t ok x st im)

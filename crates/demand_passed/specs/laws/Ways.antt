@@ -15,7 +15,7 @@ use Rattle.rack.specs.definitions.Tree.{Tree, host, parentOf, agents, IsBus}
 use Rattle.rack.specs.definitions.Stored.{Stored}
 use Rattle.rack.specs.definitions.Refusal.{rackRefusal}
 use Rattle.rack_laws.specs.laws.Sound.{devices-differ}
-use Rattle.register_image.specs.definitions.Image.{Images, view}
+use Rattle.register_image.specs.definitions.Image.{Images, Result, view}
 use Rattle.claim_agent.specs.declared.Space.{Space}
 use Rattle.claim_agent.specs.declared.Space.the-variants.{Memory, Io, Configuration}
 use Rattle.claim_agent.specs.declared.DeviceClaims.{DeviceClaims}
@@ -28,9 +28,10 @@ use Rattle.route_bus.specs.declared.Access.{Access}
 use Rattle.route_bus.specs.declared.Outcome.{Outcome}
 use Rattle.route_bus.specs.declared.End.{End}
 use Rattle.route_bus.specs.declared.End.the-variants.{Node, Owner, Host, Unclaimed, Clash, Silent}
+use Rattle.route_bus.specs.declared.Route.{Route}
 use Rattle.route_bus.specs.declared.Sight.{Sight}
 use Rattle.route_bus.specs.declared.Sight.the-variants.{Ends, Crosses}
-use Rattle.route_bus.specs.definitions.End.{Out, ifUnclaimed, ends}
+use Rattle.route_bus.specs.definitions.End.{ifUnclaimed, ends}
 use Rattle.route_bus.specs.laws.EndLaws.{by-end}
 use Rattle.route_bus.specs.definitions.Look.{isIo, unclaimed, owned, claimed, direct, target, look}
 use Rattle.route_bus.specs.definitions.Cross.{otherBus, turnsType0, crossed}
@@ -103,9 +104,9 @@ module _ (t : Tree) (bus devfn : ℕ) where
 
 module _ (t : Tree) (im : Images) (x : Access) where
   -- the way alone, whatever the images that are left
-  abbrev pub Gone : ℕ → ℕ → Bool → Out → Type 0
+  abbrev pub Gone : ℕ → ℕ → Bool → Result Route → Type 0
   Gone bus driver type0 o =
-      (gs : List ℕ) × (length gs ≡ o .route .crossings) × Way t im x bus driver type0 gs (o .route .end) (o .after)
+      (gs : List ℕ) × (length gs ≡ o .answer .crossings) × Way t im x bus driver type0 gs (o .answer .end) (o .after)
 
   -- whatever changes the outcome and the images of an unclaimed access alone leaves the way as it is
   abbrev Kept : End → End → Images → Images → Type 0
@@ -135,11 +136,11 @@ module _ (t : Tree) (im : Images) (x : Access) where
   returned-kept v e u bus driver type0 l =
       by-end e (λ k o q. rw q (unclaimed-kept k o o u (v k o) bus driver type0 (rw q at l))) (λ other. rw (other Images v u) l)
 
-  pub started-gone : (bus driver : ℕ) (type0 : Bool) (i : ℕ) (o : Out) → Gone bus driver type0 o
+  pub started-gone : (bus driver : ℕ) (type0 : Bool) (i : ℕ) (o : Result Route) → Gone bus driver type0 o
       → Gone bus driver type0 (started t i o)
   unfolding returned
   started-gone bus driver type0 i o w =
-      let e = o .route .end in
+      let e = o .answer .end in
       (w .0, w .1, way-kept e e (o .after) _ (returned-kept _ e (o .after)) (w .0) bus driver type0 (w .2))
 
   ended : (bus driver : ℕ) (type0 : Bool) (e : End) (u : Images) → Last t im x bus driver type0 e u → Gone bus driver type0 (ends e u)
@@ -147,11 +148,11 @@ module _ (t : Tree) (im : Images) (x : Access) where
   ended bus driver type0 e u l = ([], refl, l)
 
   -- one bridge more
-  across : (bus driver g : ℕ) (o : Out) → claimantsOn t im x bus driver ≡ g ∷ [] → isBridge (t .node g .kind) ≡ true
-      → Gone (otherBus t bus g) g (turnsType0 t im x bus g) o → Gone bus driver false (crossed t (o .after) x bus g (o .route))
+  across : (bus driver g : ℕ) (o : Result Route) → claimantsOn t im x bus driver ≡ g ∷ [] → isBridge (t .node g .kind) ≡ true
+      → Gone (otherBus t bus g) g (turnsType0 t im x bus g) o → Gone bus driver false (crossed t (o .after) x bus g (o .answer))
   unfolding Way crossed
   across bus driver g o one is w =
-      let e = o .route .end in (
+      let e = o .answer .end in (
         g ∷ w .0,
         omega (arith, w .1),
         (
@@ -179,8 +180,8 @@ module _ (t : Tree) (im : Images) (x : Access) where
   way-no-clash (g ∷ gs) bus driver type0 e u w = way-no-clash gs (otherBus t bus g) g (turnsType0 t im x bus g) e u (w .3)
 
   -- an access that went its way did not clash
-  pub gone-no-clash : (bus driver : ℕ) (type0 : Bool) (o : Out) → Gone bus driver type0 o → isClash (o .route .end) ≡ false
-  gone-no-clash bus driver type0 o w = way-no-clash (w .0) bus driver type0 (o .route .end) (o .after) (w .2)
+  pub gone-no-clash : (bus driver : ℕ) (type0 : Bool) (o : Result Route) → Gone bus driver type0 o → isClash (o .answer .end) ≡ false
+  gone-no-clash bus driver type0 o w = way-no-clash (w .0) bus driver type0 (o .answer .end) (o .after) (w .2)
 
   -- a claimant claims
   claimants-claim : (claim : ℕ → Bool) (driver : ℕ) (l : List ℕ) (g : ℕ) (rest : List ℕ) → claimantsIn claim driver l ≡ g ∷ rest
@@ -224,13 +225,13 @@ module _ (t : Tree) (im : Images) (x : Access) where
         rw (a, b) (one, r, r .offset, refl)))
 
     claimed-sees : (bus driver : ℕ) (l : List ℕ) → claimantsOn t im x bus driver ≡ l → length l ≤ 1
-        → Seeing bus driver false (claimed t im x bus driver (firstTwo l) .sight) (claimed t im x bus driver (firstTwo l) .after)
+        → Seeing bus driver false (claimed t im x bus driver (firstTwo l) .answer) (claimed t im x bus driver (firstTwo l) .after)
     unfolding claimed unclaimed
     claimed-sees bus driver [] e n = (refl, e)
     claimed-sees bus driver (g ∷ []) e n = owned-sees bus driver g e
     claimed-sees bus driver (g ∷ (k ∷ l)) e n = absurd (omega arith)
 
-    direct-sees : (bus driver : ℕ) → Seeing bus driver true (direct t im x bus driver .sight) (direct t im x bus driver .after)
+    direct-sees : (bus driver : ℕ) → Seeing bus driver true (direct t im x bus driver .answer) (direct t im x bus driver .after)
     unfolding direct unclaimed
     direct-sees bus driver =
         tested (eqb (target t bus (x .devfn)) 255)
@@ -238,12 +239,12 @@ module _ (t : Tree) (im : Images) (x : Access) where
         (λ q. rw q (target-selected t bus (x .devfn) (eqb-false _ 255 q), refl))
 
     look-sees : (bus driver : ℕ) (type0 : Bool) → (type0 ≡ false → length (claimantsOn t im x bus driver) ≤ 1)
-        → Seeing bus driver type0 (look t im x bus driver type0 .sight) (look t im x bus driver type0 .after)
+        → Seeing bus driver type0 (look t im x bus driver type0 .answer) (look t im x bus driver type0 .after)
     unfolding look
     look-sees bus driver true one = direct-sees bus driver
     look-sees bus driver false one = claimed-sees bus driver (claimantsOn t im x bus driver) refl (one refl)
 
-    follow-gone : (bus driver : ℕ) (type0 : Bool) (cross : ℕ → Images → Out) (s : Sight) (v : Images)
+    follow-gone : (bus driver : ℕ) (type0 : Bool) (cross : ℕ → Images → Result Route) (s : Sight) (v : Images)
         → Follows t bus driver im s v → Seeing bus driver type0 s v
         → ((g : ℕ) → type0 ≡ false → Taken t bus driver g → claimantsOn t im x bus driver ≡ g ∷ [] → isBridge (t .node g .kind) ≡ true
         → Gone bus driver false (cross g im))
@@ -261,14 +262,14 @@ module _ (t : Tree) (im : Images) (x : Access) where
           → Gone bus driver type0 (busStep (suc (m + m)) t im x bus driver type0)
       unfolding busStep
       gone zero bus driver type0 is en dr =
-          follow-gone bus driver type0 (λ g v. bridgeStep 0 t v x bus g) (look t im x bus driver type0 .sight)
+          follow-gone bus driver type0 (λ g v. bridgeStep 0 t v x bus g) (look t im x bus driver type0 .answer)
           (look t im x bus driver type0 .after) (look-follows t bus im x driver type0)
           (look-sees bus driver type0 (λ e. one bus driver is (rw e at dr)))
           (λ g e k c b. absurd (onward t ok bus driver 0 g is en k .left refl))
       gone (suc m) bus driver type0 is en dr =
           let p : suc m + suc m ≡ suc (suc (m + m)) = omega arith in
           rw p
-          (follow-gone bus driver type0 (λ g v. bridgeStep (suc (suc (m + m))) t v x bus g) (look t im x bus driver type0 .sight)
+          (follow-gone bus driver type0 (λ g v. bridgeStep (suc (suc (m + m))) t v x bus g) (look t im x bus driver type0 .answer)
           (look t im x bus driver type0 .after) (look-follows t bus im x driver type0)
           (look-sees bus driver type0 (λ e. one bus driver is (rw e at dr)))
           (λ g e k c b.

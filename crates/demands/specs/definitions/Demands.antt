@@ -11,7 +11,7 @@ use Rattle.rack.specs.definitions.Tree.{Tree, depth, greatestDepth}
 use Rattle.rack.specs.definitions.Grow.{tree}
 use Rattle.rack.specs.definitions.Refusal.{rackRefusal, FirstFaultyNode}
 use Rattle.register_header.specs.definitions.Register.{readRegister}
-use Rattle.register_image.specs.definitions.Image.{Images, view, writeNode}
+use Rattle.register_image.specs.definitions.Image.{Images, Result, view, writeNode}
 use Rattle.register_image.specs.definitions.Fixed.{imageRefusal, lengthsWrong}
 use Rattle.register_image.specs.definitions.Reset.{resetImages}
 use Rattle.claim_agent.specs.declared.Space.{Space}
@@ -25,8 +25,8 @@ use Rattle.file_record.specs.declared.Event.{Event}
 use Rattle.file_record.specs.definitions.Events.{eventIn, eventBytes}
 use Rattle.file_record.specs.definitions.Load.{readIn, rackAlone}
 use Rattle.file_laws.specs.definitions.Records.{FirstFaulty, Faultless}
+use Rattle.event_run.specs.declared.Answer.{Answer}
 use Rattle.event_run.specs.declared.Answer.the-variants.{Checked}
-use Rattle.event_run.specs.definitions.Answers.{Answered}
 use Rattle.event_run.specs.definitions.Run.{eventRun}
 use Rattle.call_table.specs.declared.Reply.the-variants as reply
 use Rattle.call_table.specs.declared.Number.the-variants as number
@@ -105,7 +105,7 @@ module _ (rack : Rack) (im : Images) where
   pub record Run (e : Event) : Type 0 where
     pub refused : (refusalBy (tree rack) im (call.eventRefusal (tree rack) e) ≡ 0 → ⊥)
         → runIn (tree rack) im e
-        ≡ record { reply = reply.Refused (refusalBy (tree rack) im (call.eventRefusal (tree rack) e)); after = im }
+        ≡ record { answer = reply.Refused (refusalBy (tree rack) im (call.eventRefusal (tree rack) e)); after = im }
     pub answers : refusalBy (tree rack) im (call.eventRefusal (tree rack) e) ≡ 0
         → runIn (tree rack) im e ≡ ran (eventRun (tree rack) im e)
 
@@ -135,7 +135,7 @@ pub record Demand1 : Type 0 where
       → InOrder b (eventBytes event) im (call.eventRefusal (rackAlone b .tree) (eventIn event 0))
       (repliedCall (ran (eventRun (rackAlone b .tree) im (eventIn event 0)))) (rackRun b event im)
   pub c-checks : (b : List ℕ) (im : Images)
-      → InOrder b 0 im 0 (repliedCall (record { reply = reply.Answered (Checked (check (rackAlone b .tree) im)); after = im }))
+      → InOrder b 0 im 0 (repliedCall (record { answer = reply.Answered (Checked (check (rackAlone b .tree) im)); after = im }))
       (rackCheck b im)
   pub c-windows : (b : List ℕ) (im : Images) (i k : ℕ)
       → InOrder b 0 im (call.windowRefusal (rackAlone b .tree) i k)
@@ -197,9 +197,9 @@ pub record Checked3 (rack : Rack) (im : Images) : Type 0 where
 pub record Passed3 (rack : Rack) (im : Images) : Type 0 where
   pub goes : (im' : Images) → SameButStatus (tree rack) im im' → (e : Event) → Fits e
       → refusalBy (tree rack) im' (call.eventRefusal (tree rack) e) ≡ 0
-      → (r : Answered) × (runIn (tree rack) im' e ≡ ran r) × Goes (tree rack) im' e r
+      → (r : Result Answer) × (runIn (tree rack) im' e ≡ ran r) × Goes (tree rack) im' e r
   pub no-clash : (im' : Images) → SameButStatus (tree rack) im im' → (e : Event) → Fits e
-      → replyNumber (runIn (tree rack) im' e .reply) ≡ 6 → ⊥
+      → replyNumber (runIn (tree rack) im' e .answer) ≡ 6 → ⊥
   pub later : (es : List Event) → AllWriteNone es → SameButStatus (tree rack) im (afterAll (tree rack) es im)
 
 -- over the C calls rack_check and rack_run: 8 is the number of a pass, 9 of a fault, 6 of a clash
@@ -219,7 +219,7 @@ pub record CChecked3 (b : List ℕ) (im : Images) : Type 0 where
 pub record CPassed3 (b : List ℕ) (im : Images) : Type 0 where
   pub goes : (im' : Images) → SameButStatus (rackAlone b .tree) im im' → (event : List ℕ) → ((k : ℕ) → getD event k 0 < 256)
       → rackRun b event im' .code ≡ 0
-      → (r : Answered) × (rackRun b event im' ≡ repliedCall (ran r)) × Goes (rackAlone b .tree) im' (eventIn event 0) r
+      → (r : Result Answer) × (rackRun b event im' ≡ repliedCall (ran r)) × Goes (rackAlone b .tree) im' (eventIn event 0) r
   pub no-clash : (im' : Images) → SameButStatus (rackAlone b .tree) im im' → (event : List ℕ)
       → ((k : ℕ) → getD event k 0 < 256) → c.number (rackRun b event im') ≡ 6 → ⊥
   pub later : (events : List (List ℕ)) → AllCallsWriteNone events → SameButStatus (rackAlone b .tree) im (afterCalls b events im)
@@ -228,9 +228,9 @@ pub record Demand3 : Type 0 where
   pub checked : (rack : Rack) (im : Images) → Checked3 rack im
   pub passed : (rack : Rack) (im : Images) → checkIn (tree rack) im ≡ reply.Answered (Checked Pass) → Passed3 rack im
   pub crossed : (rack : Rack) (im : Images) (e : Event)
-      → crossings (runIn (tree rack) im e .reply) ≤ depth (tree rack) (startBus (tree rack) e) + greatestDepth (tree rack)
+      → crossings (runIn (tree rack) im e .answer) ≤ depth (tree rack) (startBus (tree rack) e) + greatestDepth (tree rack)
   -- 'is never driven': an answer is silent, number 7, only where its initiator is a device with command bit 2 clear
-  pub silent : (rack : Rack) (im : Images) (e : Event) → replyNumber (runIn (tree rack) im e .reply) ≡ 7 → MayNotDrive (tree rack) im e
+  pub silent : (rack : Rack) (im : Images) (e : Event) → replyNumber (runIn (tree rack) im e .answer) ≡ 7 → MayNotDrive (tree rack) im e
   pub c-checked : (b : List ℕ) (im : Images) → CChecked3 b im
   pub c-passed : (b : List ℕ) (im : Images) → c.number (rackCheck b im) ≡ 8 → CPassed3 b im
   -- the endings 1 to 6 carry their crossings as their second number

@@ -1,8 +1,7 @@
 -- The answer to an event: its number and values.
 use Prim.Native.Nat.{ℕ}
 use mathlib.Core.List.{List, [], _∷_}
-use Rattle.register_image.specs.definitions.Image.{Images, images}
-use Rattle.route_bus.specs.definitions.Outcome.{outcomeNumber}
+use Rattle.route_bus.specs.definitions.End.{outcomeNumber}
 use Rattle.check_search.specs.definitions.Report.{reportNumber, reportValues}
 use Rattle.event_run.specs.declared.Ending.{Ending}
 use Rattle.event_run.specs.declared.Ending.the-variants.{Data, Stored, Owner, Host, Unclaimed, Clash, Silent}
@@ -42,11 +41,3 @@ answerValues (Checked r) = reportValues r
 abbrev pub crossingsOf : Answer → ℕ
 crossingsOf (Ended c e) = c
 crossingsOf (Checked r) = 0
-
--- an answer with the images that it leaves
-pub record Answered : Type 0 where
-  pub answer : Answer
-  pub after : Images
-
-abbrev pub answered : Answer → List ℕ → List ℕ → Answered
-answered a b d = record { answer = a; after = images b d }

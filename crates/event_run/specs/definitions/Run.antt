@@ -4,21 +4,21 @@ use mathlib.Core.Bool.{Bool, true, false, cond}
 use lib.Dec.{eqb}
 use Rattle.rack.specs.definitions.Tree.{Tree}
 use Rattle.register_header.specs.definitions.Register.{readRegister}
-use Rattle.register_image.specs.definitions.Image.{Images, view, writeNode}
+use Rattle.register_image.specs.definitions.Image.{Images, Result, view, writeNode}
 use Rattle.claim_agent.specs.declared.Space.{Space}
 use Rattle.claim_agent.specs.declared.Space.the-variants as space
 use Rattle.route_bus.specs.declared.Access.{Access}
 use Rattle.route_bus.specs.declared.End.{End}
 use Rattle.route_bus.specs.declared.End.the-variants as end
-use Rattle.route_bus.specs.definitions.End.{Out}
+use Rattle.route_bus.specs.declared.Route.{Route}
 use Rattle.route.specs.definitions.Route.{configure, access}
 use Rattle.check_search.specs.definitions.Check.{check}
 use Rattle.file_record.specs.declared.Event.{Event}
 use Rattle.file_record.specs.declared.Event.the-variants.{Write, Read, Memory, Io, Check}
 use Rattle.event_run.specs.declared.Ending.{Ending}
 use Rattle.event_run.specs.declared.Ending.the-variants.{Data, Stored, Owner, Host, Unclaimed, Clash, Silent}
+use Rattle.event_run.specs.declared.Answer.{Answer}
 use Rattle.event_run.specs.declared.Answer.the-variants.{Ended, Checked}
-use Rattle.event_run.specs.definitions.Answers.{Answered}
 
 -- a configuration access: bus, device times 8 plus function, register, enables and data
 abbrev pub configuration : Bool → ℕ → ℕ → ℕ → ℕ → ℕ → Access
@@ -47,17 +47,17 @@ addressed s direction address =
     }
 
 -- an access that ended, with the images that it leaves
-abbrev pub answers : ℕ → Ending → Images → Answered
+abbrev pub answers : ℕ → Ending → Images → Result Answer
 answers crossings e im = record { answer = Ended crossings e; after = im }
 
 -- the register that the access names, of node g, is read or written
-unfoldable pub registerOf : Tree → Images → Access → ℕ → ℕ → Answered
+unfoldable pub registerOf : Tree → Images → Access → ℕ → ℕ → Result Answer
 registerOf t im x crossings g =
     cond (x .write) (answers crossings Stored (writeNode t im g (x .register) (x .enables) (x .«data»)))
     (answers crossings (Data (readRegister (view t im g) (x .register))) im)
 
 -- what an access comes to, by where its route ended
-unfoldable pub endedAt : Tree → Images → Access → ℕ → End → Answered
+unfoldable pub endedAt : Tree → Images → Access → ℕ → End → Result Answer
 endedAt t im x crossings (end.Node g) = registerOf t im x crossings g
 endedAt t im x crossings (end.Owner node region offset) = answers crossings (Owner node region offset) im
 endedAt t im x crossings (end.Host offset) = answers crossings (Host offset) im
@@ -65,18 +65,18 @@ endedAt t im x crossings (end.Unclaimed holder outcome) = answers crossings (Unc
 endedAt t im x crossings (end.Clash holder first second) = answers crossings (Clash holder first second) im
 endedAt t im x crossings end.Silent = answers crossings Silent im
 
-abbrev pub ended : Tree → Access → Out → Answered
-ended t x o = endedAt t (o .after) x (o .route .crossings) (o .route .end)
+abbrev pub ended : Tree → Access → Result Route → Result Answer
+ended t x o = endedAt t (o .after) x (o .answer .crossings) (o .answer .end)
 
 -- 01: 'Configuration starts at the host', an access at its initiator
-abbrev pub configured : Tree → Images → Access → Answered
+abbrev pub configured : Tree → Images → Access → Result Answer
 configured t im x = ended t x (configure t im x)
 
-abbrev pub accessed : Tree → Images → Access → ℕ → Answered
+abbrev pub accessed : Tree → Images → Access → ℕ → Result Answer
 accessed t im x initiator = ended t x (access t im x initiator)
 
 -- each event; 'A check changes no register'
-unfoldable pub eventRun : Tree → Images → Event → Answered
+unfoldable pub eventRun : Tree → Images → Event → Result Answer
 eventRun t im (Write bus devfn register enables put) = configured t im (configuration true bus devfn register enables put)
 eventRun t im (Read bus devfn register) = configured t im (configuration false bus devfn register 0 0)
 eventRun t im (Memory initiator direction address) = accessed t im (addressed space.Memory direction address) initiator

@@ -2,13 +2,14 @@
 use Prim.Native.Nat.{ℕ}
 use mathlib.Core.List.{List}
 use Rattle.rack.specs.definitions.First.{_when_, _or_, unless}
-use Rattle.register_image.specs.definitions.Image.{Images, images}
+use Rattle.register_image.specs.definitions.Image.{Images, images, Result}
 use Rattle.register_image.specs.definitions.Fixed.{lengthsWrong}
 use Rattle.register_image.specs.definitions.Reset.{resetImages}
 use Rattle.file_record.specs.definitions.Events.{eventIn, eventBytes}
 use Rattle.file_record.specs.definitions.Load.{rackAlone}
 use Rattle.call_table.specs.declared.EndsReply.{EndsReply}
-use Rattle.call_table.specs.definitions.Call.{Replied, runIn, checkIn, endsIn}
+use Rattle.call_table.specs.declared.Reply.{Reply}
+use Rattle.call_table.specs.definitions.Call.{runIn, checkIn, endsIn}
 use Rattle.call_numbers.specs.definitions.Numbers.{zeros, codeOf, replyNumbers, endsCode, endsNumbers}
 
 -- 0 or the refusal's number, eight numbers, and both images
@@ -24,8 +25,8 @@ called code numbers b d = record { code = code; numbers = numbers; after = image
 abbrev pub refusedCall : ℕ → Images → Called
 refusedCall refusal im = record { code = refusal; numbers = zeros; after = im }
 
-abbrev pub repliedCall : Replied → Called
-repliedCall r = record { code = codeOf (r .reply); numbers = replyNumbers (r .reply); after = r .after }
+abbrev pub repliedCall : Result Reply → Called
+repliedCall r = record { code = codeOf (r .answer); numbers = replyNumbers (r .answer); after = r .after }
 
 abbrev pub endsCall : EndsReply → Images → Called
 endsCall e im = record { code = endsCode e; numbers = endsNumbers e; after = im }
@@ -40,7 +41,7 @@ rackRun b event im =
 -- rack_check: 'A check changes no register'
 unfoldable pub rackCheck : List ℕ → Images → Called
 rackCheck b im =
-    unless (rackAlone b .refusal) (repliedCall (record { reply = checkIn (rackAlone b .tree) im; after = im }))
+    unless (rackAlone b .refusal) (repliedCall (record { answer = checkIn (rackAlone b .tree) im; after = im }))
     (λ n. refusedCall n im)
 
 -- rack_window: window k of a bridge (0 memory, 1 prefetchable, 2 I/O), or region k of a device

@@ -5,11 +5,11 @@ use mathlib.Core.List.{List, [], _++_}
 use lib.Dec.{leb, ltb}
 use lib.ListN.{length, drop}
 use Rattle.rack.specs.definitions.Tree.{Tree}
-use Rattle.register_image.specs.definitions.Image.{Images}
+use Rattle.register_image.specs.definitions.Image.{Images, Result}
 use Rattle.file_record.specs.definitions.Number.{byteIn}
 use Rattle.file_record.specs.definitions.Record.{sizeOf}
 use Rattle.file_record.specs.definitions.Events.{eventIn}
-use Rattle.event_run.specs.definitions.Answers.{Answered}
+use Rattle.event_run.specs.declared.Answer.{Answer}
 use Rattle.event_run.specs.definitions.Run.{eventRun}
 use Rattle.print_file.specs.declared.Cursor.{Cursor}
 use Rattle.print_file.specs.definitions.Output.{answerLine}
@@ -33,7 +33,7 @@ abbrev pub past : List ℕ → Cursor → Cursor
 past b at = record { offset = at .offset + sizeOf (byteIn b (at .offset)); number = at .number + 1 }
 
 -- the event at a cursor, run
-abbrev pub ranAt : Tree → List ℕ → Cursor → Images → Answered
+abbrev pub ranAt : Tree → List ℕ → Cursor → Images → Result Answer
 ranAt t b at im = eventRun t im (eventIn b (at .offset))
 
 -- its line

@@ -1,4 +1,4 @@
--- The two images, the part of one node in them, and an image with one part changed.
+-- The two images, an answer with both, the part of one node in them, and an image with one part changed.
 use Prim.Native.Nat.{ℕ, _+_, _*_, _/_}
 use mathlib.Core.Bool.{cond}
 use mathlib.Core.List.{List, [], _++_}
@@ -18,6 +18,14 @@ pub record Images : Type 0 where
 
 abbrev pub images : List ℕ → List ℕ → Images
 images b d = record { bridges = b; devices = d }
+
+-- what a function answers, with both images as it leaves them
+pub record Result (A : Type 0) : Type 0 where
+  pub answer : A
+  pub after : Images
+
+abbrev pub result : {A : Type 0} → A → List ℕ → List ℕ → Result A
+result a b d = record { answer = a; after = images b d }
 
 -- the image that holds nodes of a kind, and both with that one replaced
 abbrev pub imageOf : Images → Kind → List ℕ

@@ -1,7 +1,6 @@
 -- What a bridge makes of the answer of the bus on its other side.
 use Prim.Native.Nat.{ℕ, _+_}
 use mathlib.Core.Bool.{Bool, true, false, not, _&&_, cond}
-use mathlib.Core.List.{List}
 use lib.Dec.{eqb}
 use lib.ListN.{getD}
 use Rattle.rack.specs.definitions.Tree.{Tree, parentOf}
@@ -9,7 +8,7 @@ use Rattle.register_header.specs.declared.Side.{Side}
 use Rattle.register_header.specs.declared.Side.the-variants.{Primary, Secondary}
 use Rattle.register_header.specs.declared.StatusBit.the-variants.{SignaledTargetAbort, ReceivedTargetAbort}
 use Rattle.register_header.specs.definitions.PciRegs.{SECONDARY-BUS, BRIDGE-CONTROL, BRIDGE-CTL-MASTER-ABORT}
-use Rattle.register_image.specs.definitions.Image.{Images, images, view, statusNode}
+use Rattle.register_image.specs.definitions.Image.{Images, Result, view, statusNode}
 use Rattle.register_header.specs.definitions.Register.{bitAt}
 use Rattle.claim_agent.specs.declared.Space.{Space}
 use Rattle.claim_agent.specs.declared.Space.the-variants.{Memory, Io, Configuration}
@@ -19,7 +18,7 @@ use Rattle.route_bus.specs.declared.Outcome.the-variants.{Abort, Done, T
 use Rattle.route_bus.specs.declared.End.{End}
 use Rattle.route_bus.specs.declared.End.the-variants.{Unclaimed}
 use Rattle.route_bus.specs.declared.Route.{Route}
-use Rattle.route_bus.specs.definitions.End.{Out, ifUnclaimed}
+use Rattle.route_bus.specs.definitions.End.{ifUnclaimed}
 use Rattle.route_bus.specs.definitions.Look.{sideOn}
 
 -- a bridge takes an access up from the bus that it holds, and down from the bus that it sits on
@@ -64,36 +63,28 @@ lastImages t im bus g Abort = im
 lastImages t im bus g Done = im
 lastImages t im bus g Target = signalled t im bus g
 
--- what is made of the outcome of an unclaimed access, with the images that this leaves
-pub record Passed : Type 0 where
-  pub outcome : Outcome
-  pub after : Images
-
-abbrev pub passing : Outcome → List ℕ → List ℕ → Passed
-passing o b d = record { outcome = o; after = images b d }
-
 -- 01: 'each earlier bridge bit 12 towards the later and bit 11 towards the initiator'
-unfoldable pub passed : Tree → Images → Access → ℕ → ℕ → Outcome → Passed
+unfoldable pub passed : Tree → Images → Access → ℕ → ℕ → Outcome → Result Outcome
 passed t im x bus g Abort =
-    record { outcome = lastOutcome t im x g; after = lastImages t im bus g (lastOutcome t im x g) }
-passed t im x bus g Done = record { outcome = Done; after = im }
+    record { answer = lastOutcome t im x g; after = lastImages t im bus g (lastOutcome t im x g) }
+passed t im x bus g Done = record { answer = Done; after = im }
 passed t im x bus g Target =
     record {
-      outcome = Target;
+      answer = Target;
       after = signalled t (statusNode t im g (towardsLater bus g) ReceivedTargetAbort) bus g;
     }
 
 -- the end of a route on its way back through bridge g, and the images that this leaves
 abbrev pub passedEnd : Tree → Images → Access → ℕ → ℕ → End → End
-passedEnd t im x bus g e = ifUnclaimed (λ holder o. Unclaimed holder (passed t im x bus g o .outcome)) e e
+passedEnd t im x bus g e = ifUnclaimed (λ holder o. Unclaimed holder (passed t im x bus g o .answer)) e e
 
 abbrev pub passedImages : Tree → Images → Access → ℕ → ℕ → End → Images
 passedImages t im x bus g e = ifUnclaimed (λ holder o. passed t im x bus g o .after) im e
 
 -- one crossing more
-unfoldable pub crossed : Tree → Images → Access → ℕ → ℕ → Route → Out
+unfoldable pub crossed : Tree → Images → Access → ℕ → ℕ → Route → Result Route
 crossed t im x bus g r =
     record {
-      route = record { crossings = r .crossings + 1; end = passedEnd t im x bus g (r .end) };
+      answer = record { crossings = r .crossings + 1; end = passedEnd t im x bus g (r .end) };
       after = passedImages t im x bus g (r .end);
     }

@@ -7,7 +7,7 @@ use Rattle.rack.specs.definitions.Tree.{Tree, host, parentOf}
 use Rattle.register_header.specs.declared.Side.{Side}
 use Rattle.register_header.specs.declared.Side.the-variants.{Primary, Secondary}
 use Rattle.register_header.specs.declared.StatusBit.the-variants.{ReceivedMasterAbort}
-use Rattle.register_image.specs.definitions.Image.{Images, view, statusNode}
+use Rattle.register_image.specs.definitions.Image.{Images, Result, view, statusNode}
 use Rattle.claim_agent.specs.declared.Space.{Space}
 use Rattle.claim_agent.specs.declared.Space.the-variants.{Memory, Io, Configuration}
 use Rattle.claim_agent.specs.declared.Claimants.{Claimants}
@@ -20,7 +20,6 @@ use Rattle.route_bus.specs.declared.Outcome.the-variants.{Abort}
 use Rattle.route_bus.specs.declared.End.the-variants.{Node, Owner, Host, Unclaimed, Clash}
 use Rattle.route_bus.specs.declared.Sight.{Sight}
 use Rattle.route_bus.specs.declared.Sight.the-variants.{Ends, Crosses}
-use Rattle.route_bus.specs.definitions.End.{Seen}
 
 abbrev pub isIo : Space → Bool
 isIo Memory = false
@@ -36,8 +35,8 @@ unfoldable pub masterAbort : Tree → Images → ℕ → ℕ → Images
 masterAbort t im bus driver =
     cond (eqb driver host) im (statusNode t im driver (sideOn bus driver) ReceivedMasterAbort)
 
-unfoldable pub unclaimed : Tree → Images → ℕ → ℕ → Seen
-unclaimed t im bus driver = record { sight = Ends (Unclaimed bus Abort); after = masterAbort t im bus driver }
+unfoldable pub unclaimed : Tree → Images → ℕ → ℕ → Result Sight
+unclaimed t im bus driver = record { answer = Ends (Unclaimed bus Abort); after = masterAbort t im bus driver }
 
 -- 01: 'one claimant owns it or, if a bridge, takes it across'; the offset from the region's or the host's first address
 unfoldable pub owned : Tree → Images → Access → ℕ → Sight
@@ -49,10 +48,10 @@ owned t im x g =
     (offsetIn (deviceOf (t .node g) (view t im g)) (isIo (x .space)) (x .address)))))
 
 -- 01: 'With no claimant the access is unclaimed, with two or more it clashes'. A clash sets nothing
-unfoldable pub claimed : Tree → Images → Access → ℕ → ℕ → Claimants → Seen
+unfoldable pub claimed : Tree → Images → Access → ℕ → ℕ → Claimants → Result Sight
 claimed t im x bus driver Nobody = unclaimed t im bus driver
-claimed t im x bus driver (One g) = record { sight = owned t im x g; after = im }
-claimed t im x bus driver (Two y z) = record { sight = Ends (Clash bus y z); after = im }
+claimed t im x bus driver (One g) = record { answer = owned t im x g; after = im }
+claimed t im x bus driver (Two y z) = record { answer = Ends (Clash bus y z); after = im }
 
 -- 01: 'Type 0 reaches the node of that device number, function 0'; 255 where there is none
 unfoldable pub target : Tree → ℕ → ℕ → ℕ
@@ -62,13 +61,13 @@ target t bus devfn =
     255
 
 -- 01: 'which owns it; otherwise .. it is unclaimed'. Its register is read or written where the event is run
-unfoldable pub direct : Tree → Images → Access → ℕ → ℕ → Seen
+unfoldable pub direct : Tree → Images → Access → ℕ → ℕ → Result Sight
 direct t im x bus driver =
     cond (eqb (target t bus (x .devfn)) 255) (unclaimed t im bus driver)
-    (record { sight = Ends (Node (target t bus (x .devfn))); after = im })
+    (record { answer = Ends (Node (target t bus (x .devfn))); after = im })
 
 -- a bus, for an access that is Type 0 configuration there or is claimed
-unfoldable pub look : Tree → Images → Access → ℕ → ℕ → Bool → Seen
+unfoldable pub look : Tree → Images → Access → ℕ → ℕ → Bool → Result Sight
 look t im x bus driver type0 =
     cond type0 (direct t im x bus driver)
     (claimed t im x bus driver (firstTwo (claimants t im (x .space) bus driver (x .address))))

@@ -35,25 +35,25 @@ module _ (t : Tree) (x : Access) where
     turned im bus g = rw other
 
     -- a memory or I/O access from a bus reaches none
-    pub bus-none : (n : ℕ) (im : Images) (bus driver : ℕ) → endsAtNode (busStep n t im x bus driver false .route .end) ≡ false
+    pub bus-none : (n : ℕ) (im : Images) (bus driver : ℕ) → endsAtNode (busStep n t im x bus driver false .answer .end) ≡ false
     unfolding busStep crossed look
     bus-none zero im bus driver = refl
     bus-none (suc zero) im bus driver =
-        follow-fails endsAtNode t im bus driver (λ g v. bridgeStep 0 t v x bus g) (look t im x bus driver false .sight)
+        follow-fails endsAtNode t im bus driver (λ g v. bridgeStep 0 t v x bus g) (look t im x bus driver false .answer)
         (look t im x bus driver false .after) (look-follows t bus im x driver false)
         (claimed-fails endsAtNode node-fails t im x bus driver (firstTwo (claimants t im (x .space) bus driver (x .address))))
         (λ g k. refl)
     bus-none (suc (suc n)) im bus driver =
-        follow-fails endsAtNode t im bus driver (λ g v. bridgeStep (suc n) t v x bus g) (look t im x bus driver false .sight)
+        follow-fails endsAtNode t im bus driver (λ g v. bridgeStep (suc n) t v x bus g) (look t im x bus driver false .answer)
         (look t im x bus driver false .after) (look-follows t bus im x driver false)
         (claimed-fails endsAtNode node-fails t im x bus driver (firstTwo (claimants t im (x .space) bus driver (x .address))))
         (λ g k.
         let r = busStep n t im x (otherBus t bus g) g (turnsType0 t im x bus g) in
-        passed-is endsAtNode node-fails t (r .after) x bus g (r .route .end)
+        passed-is endsAtNode node-fails t (r .after) x bus g (r .answer .end)
         ∙ rw (turned im bus g) (bus-none n im (otherBus t bus g) g))
 
     -- nor does one of the host or of a device
-    pub access-none : (im : Images) (i : ℕ) → endsAtNode (access t im x i .route .end) ≡ false
+    pub access-none : (im : Images) (i : ℕ) → endsAtNode (access t im x i .answer .end) ≡ false
     unfolding access
     access-none im i =
         tested (eqb i host) (λ a. rw a (bus-none (possible t host + possible t host + 1) im host host))

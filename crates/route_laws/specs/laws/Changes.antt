@@ -10,7 +10,7 @@ use Rattle.register_header.specs.declared.Side.{Side}
 use Rattle.register_header.specs.declared.Side.the-variants.{Primary}
 use Rattle.register_header.specs.declared.StatusBit.{StatusBit}
 use Rattle.register_header.specs.declared.StatusBit.the-variants.{SignaledTargetAbort, ReceivedTargetAbort, ReceivedMasterAbort}
-use Rattle.register_image.specs.definitions.Image.{Images, statusNode}
+use Rattle.register_image.specs.definitions.Image.{Images, Result, statusNode}
 use Rattle.register_image.specs.definitions.Fixed.{lengthsWrong, imageRefusal}
 use Rattle.register_laws.specs.laws.Accepted.{status-accepted}
 use Rattle.claim_agent.specs.declared.Claimants.{Claimants}
@@ -22,9 +22,10 @@ use Rattle.route_bus.specs.declared.Access.{Access}
 use Rattle.route_bus.specs.declared.Outcome.{Outcome}
 use Rattle.route_bus.specs.declared.Outcome.the-variants.{Abort, Done, Target}
 use Rattle.route_bus.specs.declared.End.{End}
+use Rattle.route_bus.specs.declared.Route.{Route}
 use Rattle.route_bus.specs.declared.Sight.{Sight}
 use Rattle.route_bus.specs.declared.Sight.the-variants.{Ends, Crosses}
-use Rattle.route_bus.specs.definitions.End.{Out, ifUnclaimed}
+use Rattle.route_bus.specs.definitions.End.{ifUnclaimed}
 use Rattle.route_bus.specs.laws.EndLaws.{by-end}
 use Rattle.route_bus.specs.definitions.Look.{sideOn, masterAbort, unclaimed, claimed, direct, target, look}
 use Rattle.route_bus.specs.definitions.Cross.{otherBus, turnsType0, towardsLater, lastOutcome, signalled, lastImages, passed, passedImages, crossed}
@@ -56,7 +57,7 @@ module _ (t : Tree) (x : Access) (R : Images → Images → Type 0) (stay : (im 
   look-keeps im bus driver false =
       claimed-keeps im bus driver (firstTwo (claimants t im (x .space) bus driver (x .address)))
 
-  follow-keeps : (im : Images) (cross : ℕ → Images → Out) (s : Sight) (v : Images) → R im v
+  follow-keeps : (im : Images) (cross : ℕ → Images → Result Route) (s : Sight) (v : Images) → R im v
       → ((g : ℕ) (u : Images) → R u (cross g u .after)) → R im (follow cross s v .after)
   follow-keeps im cross (Ends e) v r b = r
   follow-keeps im cross (Crosses g) v r b = chain im v (cross g v .after) r (b g v)
@@ -89,16 +90,16 @@ module _ (t : Tree) (x : Access) (R : Images → Images → Type 0) (stay : (im 
   unfolding busStep crossed
   bus-keeps zero im bus driver type0 = stay im
   bus-keeps (suc zero) im bus driver type0 =
-      follow-keeps im (λ g v. bridgeStep 0 t v x bus g) (look t im x bus driver type0 .sight)
+      follow-keeps im (λ g v. bridgeStep 0 t v x bus g) (look t im x bus driver type0 .answer)
       (look t im x bus driver type0 .after) (look-keeps im bus driver type0) (λ g u. stay u)
   bus-keeps (suc (suc n)) im bus driver type0 =
-      follow-keeps im (λ g v. bridgeStep (suc n) t v x bus g) (look t im x bus driver type0 .sight)
+      follow-keeps im (λ g v. bridgeStep (suc n) t v x bus g) (look t im x bus driver type0 .answer)
       (look t im x bus driver type0 .after) (look-keeps im bus driver type0)
       (λ g u.
       let o = busStep n t u x (otherBus t bus g) g (turnsType0 t u x bus g) in
-      chain u (o .after) (passedImages t (o .after) x bus g (o .route .end))
+      chain u (o .after) (passedImages t (o .after) x bus g (o .answer .end))
       (bus-keeps n u (otherBus t bus g) g (turnsType0 t u x bus g))
-      (unclaimed-keeps (o .after) _ (o .route .end) (λ holder p. passed-keeps (o .after) bus g p)))
+      (unclaimed-keeps (o .after) _ (o .answer .end) (λ holder p. passed-keeps (o .after) bus g p)))
 
   received-keeps : (im : Images) (i : ℕ) (o : Outcome) → R im (received t im i o)
   received-keeps im i Abort = stay im
@@ -118,9 +119,9 @@ module _ (t : Tree) (x : Access) (R : Images → Images → Type 0) (stay : (im 
       (λ b.
       let o = from t im x (parentOf t i) i false in
       rw (a, b)
-      (chain im (o .after) (returned t (o .after) i (o .route .end))
+      (chain im (o .after) (returned t (o .after) i (o .answer .end))
       (bus-keeps (possible t (parentOf t i) + possible t (parentOf t i) + 1) im (parentOf t i) i false)
-      (unclaimed-keeps (o .after) _ (o .route .end) (λ holder p. received-keeps (o .after) i p))))
+      (unclaimed-keeps (o .after) _ (o .answer .end) (λ holder p. received-keeps (o .after) i p))))
       (λ b. rw (a, b) (stay im)))
 
 -- images whose lengths are right differ in status bits alone

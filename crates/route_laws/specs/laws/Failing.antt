@@ -7,16 +7,17 @@ use lib.Dec.{eqb}
 use Rattle.rack.specs.definitions.Node.{isBridge}
 use Rattle.rack.specs.laws.Bools.{tested}
 use Rattle.rack.specs.definitions.Tree.{Tree, host}
-use Rattle.register_image.specs.definitions.Image.{Images}
+use Rattle.register_image.specs.definitions.Image.{Images, Result}
 use Rattle.claim_agent.specs.declared.Claimants.{Claimants}
 use Rattle.claim_agent.specs.declared.Claimants.the-variants.{Nobody, One, Two}
 use Rattle.route_bus.specs.declared.Access.{Access}
 use Rattle.route_bus.specs.declared.Outcome.{Outcome}
 use Rattle.route_bus.specs.declared.End.{End}
 use Rattle.route_bus.specs.declared.End.the-variants.{Owner, Host, Unclaimed, Clash}
+use Rattle.route_bus.specs.declared.Route.{Route}
 use Rattle.route_bus.specs.declared.Sight.{Sight}
 use Rattle.route_bus.specs.declared.Sight.the-variants.{Ends, Crosses}
-use Rattle.route_bus.specs.definitions.End.{Out, ifUnclaimed}
+use Rattle.route_bus.specs.definitions.End.{ifUnclaimed}
 use Rattle.route_bus.specs.laws.EndLaws.{by-end}
 use Rattle.route_bus.specs.definitions.Look.{unclaimed, owned, claimed}
 use Rattle.route_bus.specs.definitions.Cross.{passed, passedEnd}
@@ -35,9 +36,9 @@ module _ (is : End → Bool) where
   Fails (Ends e) = is e ≡ false
   Fails (Crosses g) = Unit {0}
 
-  pub follow-fails : (t : Tree) (im : Images) (bus driver : ℕ) (cross : ℕ → Images → Out) (s : Sight) (v : Images)
-      → Follows t bus driver im s v → Fails s → ((g : ℕ) → Taken t bus driver g → is (cross g im .route .end) ≡ false)
-      → is (follow cross s v .route .end) ≡ false
+  pub follow-fails : (t : Tree) (im : Images) (bus driver : ℕ) (cross : ℕ → Images → Result Route) (s : Sight) (v : Images)
+      → Follows t bus driver im s v → Fails s → ((g : ℕ) → Taken t bus driver g → is (cross g im .answer .end) ≡ false)
+      → is (follow cross s v .answer .end) ≡ false
   follow-fails t im bus driver cross (Ends e) v f s b = s
   follow-fails t im bus driver cross (Crosses g) v f s b = rw (f .1) (b g (f .0))
 
@@ -46,7 +47,7 @@ module _ (is : End → Bool) where
     unfolding ifUnclaimed
     passed-is bus g e =
         by-end e (λ holder o q. rw q (fails .unclaimed holder _ ∙ sym (fails .unclaimed holder o)))
-        (λ other. ap is (other End (λ holder o. Unclaimed holder (passed t im x bus g o .outcome)) e))
+        (λ other. ap is (other End (λ holder o. Unclaimed holder (passed t im x bus g o .answer)) e))
 
     owned-fails : (g : ℕ) → Fails (owned t im x g)
     unfolding owned
@@ -54,7 +55,7 @@ module _ (is : End → Bool) where
         tested (eqb g host) (λ a. rw a (fails .at-host _))
         (λ a. tested (isBridge (t .node g .kind)) (λ b. rw (a, b) tt) (λ b. rw (a, b) (fails .owner g _ _)))
 
-    pub claimed-fails : (bus driver : ℕ) (c : Claimants) → Fails (claimed t im x bus driver c .sight)
+    pub claimed-fails : (bus driver : ℕ) (c : Claimants) → Fails (claimed t im x bus driver c .answer)
     unfolding claimed unclaimed
     claimed-fails bus driver Nobody = fails .unclaimed bus _
     claimed-fails bus driver (One g) = owned-fails g

@@ -11,9 +11,9 @@ use Rattle.rack.specs.definitions.Stored.{Stored}
 use Rattle.rack.specs.definitions.Refusal.{rackRefusal}
 use Rattle.rack_laws.specs.laws.Sound.{parent-is, not-own}
 use Rattle.rack_laws.specs.laws.Depths.{depth-step, depth-root, depth-greatest}
-use Rattle.register_image.specs.definitions.Image.{Images}
+use Rattle.register_image.specs.definitions.Image.{Images, Result}
 use Rattle.route_bus.specs.declared.Access.{Access}
-use Rattle.route_bus.specs.definitions.End.{Out}
+use Rattle.route_bus.specs.declared.Route.{Route}
 use Rattle.route_bus.specs.definitions.Look.{look}
 use Rattle.route_bus.specs.definitions.Cross.{otherBus, turnsType0, crossed}
 use Rattle.route.specs.definitions.Route.{busStep, bridgeStep, possible, from, configure}
@@ -83,25 +83,25 @@ module _ (t : Tree) (ok : rackRefusal t ≡ 0) where
     unfolding busStep
     steps-same zero m' im bus driver type0 is a b =
         follow-same t bus driver im (λ g v. bridgeStep 0 t v x bus g) (λ g v. bridgeStep (m' + m') t v x bus g)
-        (look t im x bus driver type0 .sight) (look t im x bus driver type0 .after) (look-follows t bus im x driver type0)
+        (look t im x bus driver type0 .answer) (look t im x bus driver type0 .after) (look-follows t bus im x driver type0)
         (λ g k. absurd (onward bus driver 0 g is a k .left refl))
     steps-same (suc m) zero im bus driver type0 is a b =
         follow-same t bus driver im (λ g v. bridgeStep (suc m + suc m) t v x bus g) (λ g v. bridgeStep 0 t v x bus g)
-        (look t im x bus driver type0 .sight) (look t im x bus driver type0 .after) (look-follows t bus im x driver type0)
+        (look t im x bus driver type0 .answer) (look t im x bus driver type0 .after) (look-follows t bus im x driver type0)
         (λ g k. absurd (onward bus driver 0 g is b k .left refl))
     steps-same (suc m) (suc m') im bus driver type0 is a b =
         let p : suc m + suc m ≡ suc (suc (m + m)) = omega arith in
         let p' : suc m' + suc m' ≡ suc (suc (m' + m')) = omega arith in
         rw (p, p')
         (follow-same t bus driver im (λ g v. bridgeStep (suc (suc (m + m))) t v x bus g)
-        (λ g v. bridgeStep (suc (suc (m' + m'))) t v x bus g) (look t im x bus driver type0 .sight)
+        (λ g v. bridgeStep (suc (suc (m' + m'))) t v x bus g) (look t im x bus driver type0 .answer)
         (look t im x bus driver type0 .after) (look-follows t bus im x driver type0)
         (λ g k.
         let o = onward bus driver (suc m) g is a k in
         let o' = onward bus driver (suc m') g is b k in
         let s : suc m - 1 ≡ m = omega arith in
         let s' : suc m' - 1 ≡ m' = omega arith in
-        ap (λ (out : Out). crossed t (out .after) x bus g (out .route))
+        ap (λ (out : Result Route). crossed t (out .after) x bus g (out .answer))
         (steps-same m m' im (otherBus t bus g) g (turnsType0 t im x bus g) (o .place) (rw s at (o .enough)) (rw s' at (o' .enough)))))
 
     -- once crossings are enough, their number plays no part
@@ -123,10 +123,10 @@ module _ (t : Tree) (ok : rackRefusal t ≡ 0) where
     module _ (st : Stored t) where
       -- its crossings are at most the bus's depth and the greatest depth
       pub crossings-le : (im : Images) (bus driver : ℕ) (type0 : Bool) → IsBus t bus
-          → from t im x bus driver type0 .route .crossings ≤ depth t bus + greatestDepth t
+          → from t im x bus driver type0 .answer .crossings ≤ depth t bus + greatestDepth t
       crossings-le im bus driver type0 is = omega (arith, bus-le t x (possible t bus) im bus driver type0, possible-is t st bus is)
 
       -- from the host at most the greatest depth
-      pub configure-le : (im : Images) → configure t im x .route .crossings ≤ greatestDepth t
+      pub configure-le : (im : Images) → configure t im x .answer .crossings ≤ greatestDepth t
       unfolding configure
       configure-le im = omega (arith, crossings-le im host host (eqb (x .address) 0) (inl refl), depth-root t)

@@ -43,7 +43,7 @@ silent-fails : Failing isSilent
 silent-fails = record { owner = λ g r o. refl; at-host = λ o. refl; unclaimed = λ holder o. refl; clash = λ holder y z. refl }
 
 look-driven : (t : Tree) (im : Images) (x : Access) (bus driver : ℕ) (type0 : Bool)
-    → Fails isSilent (look t im x bus driver type0 .sight)
+    → Fails isSilent (look t im x bus driver type0 .answer)
 unfolding look direct unclaimed
 look-driven t im x bus driver true = tested (eqb (target t bus (x .devfn)) 255) (λ q. rw q refl) (λ q. rw q refl)
 look-driven t im x bus driver false =
@@ -51,49 +51,49 @@ look-driven t im x bus driver false =
 
 module _ (t : Tree) (ok : rackRefusal t ≡ 0) (x : Access) where
   steps-driven : (m : ℕ) (im : Images) (bus driver : ℕ) (type0 : Bool) → IsBus t bus → Enough t bus driver m
-      → isSilent (busStep (suc (m + m)) t im x bus driver type0 .route .end) ≡ false
+      → isSilent (busStep (suc (m + m)) t im x bus driver type0 .answer .end) ≡ false
   unfolding busStep crossed
   steps-driven zero im bus driver type0 is a =
-      follow-fails isSilent t im bus driver (λ g v. bridgeStep 0 t v x bus g) (look t im x bus driver type0 .sight)
+      follow-fails isSilent t im bus driver (λ g v. bridgeStep 0 t v x bus g) (look t im x bus driver type0 .answer)
       (look t im x bus driver type0 .after) (look-follows t bus im x driver type0) (look-driven t im x bus driver type0)
       (λ g k. absurd (onward t ok bus driver 0 g is a k .left refl))
   steps-driven (suc m) im bus driver type0 is a =
       let p : suc m + suc m ≡ suc (suc (m + m)) = omega arith in
       rw p
-      (follow-fails isSilent t im bus driver (λ g v. bridgeStep (suc (suc (m + m))) t v x bus g) (look t im x bus driver type0 .sight)
+      (follow-fails isSilent t im bus driver (λ g v. bridgeStep (suc (suc (m + m))) t v x bus g) (look t im x bus driver type0 .answer)
       (look t im x bus driver type0 .after) (look-follows t bus im x driver type0) (look-driven t im x bus driver type0)
       (λ g k.
       let o = onward t ok bus driver (suc m) g is a k in
       let s : suc m - 1 ≡ m = omega arith in
       let r = busStep (suc (m + m)) t im x (otherBus t bus g) g (turnsType0 t im x bus g) in
-      passed-is isSilent silent-fails t (r .after) x bus g (r .route .end)
+      passed-is isSilent silent-fails t (r .after) x bus g (r .answer .end)
       ∙ steps-driven m im (otherBus t bus g) g (turnsType0 t im x bus g) (o .place) (rw s at (o .enough))))
 
   -- with enough crossings left no route ends in silence
   pub bus-driven : (left : ℕ) (im : Images) (bus driver : ℕ) (type0 : Bool) → IsBus t bus → Enough t bus driver left
-      → isSilent (busStep (left + left + 1) t im x bus driver type0 .route .end) ≡ false
+      → isSilent (busStep (left + left + 1) t im x bus driver type0 .answer .end) ≡ false
   bus-driven left im bus driver type0 is a =
       let p : left + left + 1 ≡ suc (left + left) = omega arith in rw p (steps-driven left im bus driver type0 is a)
 
   module _ (st : Stored t) where
     -- nor does one with those that are possible
     pub from-driven : (im : Images) (bus driver : ℕ) (type0 : Bool) → IsBus t bus
-        → isSilent (from t im x bus driver type0 .route .end) ≡ false
+        → isSilent (from t im x bus driver type0 .answer .end) ≡ false
     from-driven im bus driver type0 is = bus-driven (possible t bus) im bus driver type0 is (inl (omega (arith, possible-is t st bus is)))
 
     -- nor does a configuration access
-    pub configure-driven : (im : Images) → isSilent (configure t im x .route .end) ≡ false
+    pub configure-driven : (im : Images) → isSilent (configure t im x .answer .end) ≡ false
     unfolding configure
     configure-driven im = from-driven im host host (eqb (x .address) 0) (inl refl)
 
     -- nor an access of the host
-    pub host-driven : (im : Images) → isSilent (access t im x host .route .end) ≡ false
+    pub host-driven : (im : Images) → isSilent (access t im x host .answer .end) ≡ false
     unfolding access
     host-driven im = from-driven im host host false (inl refl)
 
     -- nor one of a device that drives
     pub access-driven : (im : Images) (i : ℕ) → i < t .count → drives t im i ≡ true
-        → isSilent (access t im x i .route .end) ≡ false
+        → isSilent (access t im x i .answer .end) ≡ false
     unfolding access
     access-driven im i below on =
         rw (ne-eqb i host (not-host t ok i below), on) (from-driven im (parentOf t i) i false (parent-bus t ok i below))

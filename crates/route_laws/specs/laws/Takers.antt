@@ -11,13 +11,13 @@ use Rattle.rack.specs.definitions.Node.{isBridge}
 use Rattle.rack.specs.laws.Bools.{tested, both}
 use Rattle.rack.specs.definitions.Tree.{Tree, host, agents, OnBus}
 use Rattle.rack_laws.specs.laws.Agents.{All, all-on}
-use Rattle.register_image.specs.definitions.Image.{Images}
+use Rattle.register_image.specs.definitions.Image.{Images, Result}
 use Rattle.claim_agent.specs.definitions.Claim.{claims}
 use Rattle.claim_agent.specs.definitions.Claimants.{claimantsIn, claimants, firstTwo}
 use Rattle.route_bus.specs.declared.Access.{Access}
+use Rattle.route_bus.specs.declared.Route.{Route}
 use Rattle.route_bus.specs.declared.Sight.{Sight}
 use Rattle.route_bus.specs.declared.Sight.the-variants.{Ends, Crosses}
-use Rattle.route_bus.specs.definitions.End.{Out}
 use Rattle.route_bus.specs.definitions.Look.{unclaimed, owned, claimed, direct, target, look}
 use Rattle.route.specs.definitions.Route.{follow}
 
@@ -65,20 +65,20 @@ module _ (t : Tree) (bus : ℕ) where
         (λ b. rw (a, b) tt))
 
     claimed-follows : (l : List ℕ) → All (λ g. OnBus t bus g × (g ≡ driver → ⊥)) l
-        → Follows t bus driver im (claimed t im x bus driver (firstTwo l) .sight) (claimed t im x bus driver (firstTwo l) .after)
+        → Follows t bus driver im (claimed t im x bus driver (firstTwo l) .answer) (claimed t im x bus driver (firstTwo l) .after)
     unfolding claimed unclaimed All
     claimed-follows [] a = tt
     claimed-follows (y ∷ []) a = owned-follows y (a .0)
     claimed-follows (y ∷ (z ∷ l)) a = tt
 
-    direct-follows : Follows t bus driver im (direct t im x bus driver .sight) (direct t im x bus driver .after)
+    direct-follows : Follows t bus driver im (direct t im x bus driver .answer) (direct t im x bus driver .after)
     unfolding direct unclaimed
     direct-follows =
         tested (eqb (target t bus (x .devfn)) 255) (λ q. rw q tt) (λ q. rw q tt)
 
     -- a look sees one or the other
     pub look-follows : (type0 : Bool)
-        → Follows t bus driver im (look t im x bus driver type0 .sight) (look t im x bus driver type0 .after)
+        → Follows t bus driver im (look t im x bus driver type0 .answer) (look t im x bus driver type0 .after)
     unfolding look
     look-follows true = direct-follows
     look-follows false =
@@ -86,7 +86,7 @@ module _ (t : Tree) (bus : ℕ) where
         (claiming (OnBus t bus) (λ g. claims t im (x .space) bus g (x .address)) driver (agents t bus) agents-on)
 
 -- so two ways to go on that agree on such a bridge agree
-pub follow-same : (t : Tree) (bus driver : ℕ) (im : Images) (cross cross' : ℕ → Images → Out) (s : Sight) (v : Images)
+pub follow-same : (t : Tree) (bus driver : ℕ) (im : Images) (cross cross' : ℕ → Images → Result Route) (s : Sight) (v : Images)
     → Follows t bus driver im s v → ((g : ℕ) → Taken t bus driver g → cross g im ≡ cross' g im)
     → follow cross s v ≡ follow cross' s v
 follow-same t bus driver im cross cross' (Ends e) v f same = refl
