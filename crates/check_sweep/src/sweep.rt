@@ -1,4 +1,4 @@
-// The search of a space from stretch to stretch: past an address go all up to which every agent's claim stays the same.
+// The search of a space from stretch to stretch: after an address comes the first at which an agent's claim may change.
 ghost use mathlib.Core.Path.{_≡_};
 ghost use Prim.Native.Nat.{_+_, _-_, _≤_};
 ghost use mathlib.Core.Bool.{cond};

@@ -1,3 +1,3 @@
--- Laws that the proofs use.
+-- What the functions' proofs use.
 mod Granule
 mod Decoded

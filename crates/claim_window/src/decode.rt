@@ -1,6 +1,6 @@
 // The windows of a bridge from its 64 register bytes.
 ghost use mathlib.Core.Path.{_≡_};
-ghost use Prim.Native.Nat.{_+_, _*_, _/_, _%_, _^_, _<_};
+ghost use Prim.Native.Nat.{_+_, _*_, _/_, _^_, _<_};
 ghost use Rattle.claim_window.specs.definitions.Range.{window};
 ghost use Rattle.claim_window.specs.definitions.Window.{wordAt, memoryOf, prefetchableOf, ioOf, windowsOf};
 use crate::Windows;

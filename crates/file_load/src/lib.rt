@@ -32,7 +32,7 @@ use rack::table::count_of;
 use rack_refusals::node_refusal;
 use register_header::register::byte_at;
 
-// 4
+// Refusal 4: the first record is no host, or a later one is.
 fn host_wrong(c: Class, o: usize) -> bool
     ensures { λ r. ⌜ r ≡ hostWrong c o ⌝ }
 {
@@ -40,7 +40,7 @@ fn host_wrong(c: Class, o: usize) -> bool
     if o == 0 { !host } else { host }
 }
 
-// 5
+// Refusal 5: a rack record follows an event.
 fn follows_event(c: Class, events: usize) -> bool
     ensures { λ r. ⌜ r ≡ followsEvent c events ⌝ }
 {
@@ -48,7 +48,7 @@ fn follows_event(c: Class, events: usize) -> bool
     rack & !(events == 0)
 }
 
-// 2 to 5; `known` says whether events are.
+// Refusals 2 to 5, of a record's kind, length and place; `known` says whether events may be read.
 fn shape_fault(file: &[u8], known: bool, c: Class, o: usize, events: usize) -> u8
     requires { ⌜ o ≤ 65536 ⌝ }
     ensures { λ r. ⌜ r ≡ shapeFault (isKnown known) (now (file .entry)) c o events ⌝ }

@@ -1,2 +1,2 @@
--- What the proofs of several needs use.
+-- What the functions' proofs use.
 mod Records

@@ -90,7 +90,7 @@ fn write_wrong(register: u8, enables: u8) -> bool
     register_wrong(register) | (15 < enables)
 }
 
-// 13, of an event.
+// Refusal 13, of an event.
 pub fn event_wrong(table: &Table, e: Event) -> bool
     ensures { λ r. ⌜ r ≡ eventWrong (treeOf (now (table .entry))) e ⌝ }
 {

@@ -78,7 +78,7 @@ pub fn is_rack(c: Class) -> bool
     host | is_a(Class::Node, c)
 }
 
-// 2
+// Refusal 2: the kind is none that may be read; `events` says whether events are.
 pub fn no_kind(events: bool, c: Class) -> bool
     ensures { λ r. ⌜ r ≡ not (isKnown events c) ⌝ }
 {
@@ -87,7 +87,7 @@ pub fn no_kind(events: bool, c: Class) -> bool
     !(rack | (events & event))
 }
 
-// 3
+// Refusal 3: the body is cut short.
 pub fn cut_short(file: &[u8], o: usize) -> bool
     requires { ⌜ o ≤ 65536 ⌝ }
     ensures { λ r. ⌜ r ≡ cutShort (now (file .entry)) o ⌝ }

@@ -8,7 +8,7 @@ use rack::table::bridges_below;
 use rack::table::count_of;
 use rack::table::node_at;
 
-// 6
+// Refusal 6: a 33rd bridge or a 65th device.
 fn too_many(table: &Table, i: usize) -> bool
     ensures { λ r. ⌜ r ≡ tooMany (nodeAt (now (table .entry))) i ⌝ }
 {
@@ -22,7 +22,7 @@ fn too_many(table: &Table, i: usize) -> bool
     }
 }
 
-// 7
+// Refusal 7: a parent that is neither the root bus nor an earlier bridge.
 fn bad_parent(table: &Table, i: usize) -> bool
     ensures { λ r. ⌜ r ≡ badParent (nodeAt (now (table .entry))) i ⌝ }
 {
@@ -34,7 +34,7 @@ fn bad_parent(table: &Table, i: usize) -> bool
     !((parent == 255) | ((parent < i) & bridge))
 }
 
-// 8
+// Refusal 8: a device number above 15.
 fn high_device(table: &Table, i: usize) -> bool
     ensures { λ r. ⌜ r ≡ highDevice (nodeAt (now (table .entry))) i ⌝ }
 {
@@ -48,7 +48,7 @@ fn same_slot(m: Node, n: Node) -> bool
     (m.parent == n.parent) & (m.device == n.device)
 }
 
-// 9
+// Refusal 9: a device number that an earlier node has on that bus.
 fn taken_device(table: &Table, i: usize) -> bool
     ensures { λ r. ⌜ r ≡ takenDevice (nodeAt (now (table .entry))) i ⌝ }
 {
@@ -82,7 +82,7 @@ fn regions_range(n: Node) -> bool
         & region_range(r2.kind, r2.exponent)
 }
 
-// 10
+// Refusal 10: a region whose kind or exponent is out of range.
 fn bad_region(table: &Table, i: usize) -> bool
     ensures { λ r. ⌜ r ≡ badRegion (nodeAt (now (table .entry))) i ⌝ }
 {

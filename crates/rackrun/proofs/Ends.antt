@@ -83,7 +83,7 @@ module _ (t : Tree) (b : List ℕ) (at : Cursor) (im₀ : Images) where
     pub same : endOf t b at im₀ ≡ endOf t b next im
     pub counted : next .number ≤ next .offset + 1
 
-  -- the first event is the first
+  -- all of the run is left at its first event
   pub left-all : {offset : ℕ} → at ≡ firstAt offset → Left at im₀
   left-all e = record { same = refl; counted = omega (arith, ap (λ (k : Cursor). k .number) e) }
 
@@ -97,7 +97,7 @@ module _ (t : Tree) (b : List ℕ) (at : Cursor) (im₀ : Images) where
       printed : place to after ≡ afterPart (partOf t b 65536 next im)
       printed = rw e at p
 
-      -- a part on
+      -- one part later
       pub left-next : Left to after
       left-next =
           record {

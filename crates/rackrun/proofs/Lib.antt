@@ -1,4 +1,4 @@
--- What the proofs of several needs use.
+-- What the functions' proofs use.
 mod Ends
 mod Read
 mod Room

@@ -2,7 +2,7 @@
 use Rattle.register_header.specs.definitions.Register.{bitAt}
 use mathlib.Core.Path.{_≡_, sym, ap, ap₂, _∙_}
 use mathlib.Core.Bool.{Bool, false, true}
-use Prim.Native.Nat.{ℕ, _+_, _-_, _/_, _%_, _<_}
+use Prim.Native.Nat.{ℕ, _+_, _-_, _<_}
 use native.Mathlib.Omega.{arith}
 use lib.ListN.{getD}
 use borrow.Author.Tests.{eq-eqb, ne-eqb}
@@ -60,7 +60,7 @@ step-across t im x bus g left eb et es eo =
     (es ∙ ap₂ (λ (b : ℕ) (y : Bool). busStep (left + left + 1) t im x b g y) eb et)
     ∙ sym (bridge-on t im x bus g left)
 
--- the crossings of a route are few
+-- a route that may cross fewer than 4,096 bridges crosses fewer
 pub few-crossed : (t : Tree) (im : Images) (x : Access) (bus driver : ℕ) (type0 : Bool) (left : ℕ) {r : Route} {v : Images}
     → gives r v ≡ busStep (left + left + 1) t im x bus driver type0 → left < 4096 → r .crossings < 4096
 few-crossed t im x bus driver type0 left e l =

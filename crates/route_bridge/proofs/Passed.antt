@@ -2,8 +2,7 @@
 use Rattle.register_header.specs.definitions.Register.{bitAt}
 use mathlib.Core.Path.{_≡_, ap, ap₂, _∙_}
 use mathlib.Core.Bool.{Bool, true, false}
-use Prim.Native.Nat.{ℕ, _+_, _/_, _%_}
-use borrow.Author.Tests.{eq-eqb, ne-eqb}
+use Prim.Native.Nat.{ℕ, _+_}
 use lib.ListN.{getD}
 use types.Run.{OneOf}
 use denote.Enum.Declared as declared

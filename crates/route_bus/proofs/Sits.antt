@@ -14,7 +14,7 @@ use Rattle.route_bus.specs.definitions.Look.{target}
 abbrev pub sits : Tree → ℕ → ℕ → ℕ → Bool
 sits t bus number i = eqb (parentOf t i) bus && eqb (t .node i .device) number
 
--- none of another function
+-- a function other than 0 finds no node
 pub sits-off : (t : Tree) (bus devfn : ℕ) → (devfn % 8 ≡ 0 → ⊥) → 255 ≡ target t bus devfn
 unfolding target
 sits-off t bus devfn ne = rw (ne-eqb (devfn % 8) 0 ne)

@@ -100,7 +100,7 @@ module _ (t : Tree) (im : Images) (bus : ℕ) (few : length (agents t bus) ≤ 2
   unfolding busReport firstIn
   two-agents = rw (two-space Configuration, two-space Memory, two-space Io)
 
--- past values that pass the search goes on
+-- the search goes on after values that pass
 pub skip : (f : ℕ → Report) (m a t : ℕ) → ((x : ℕ) → a ≤ x → x < a + t → f x ≡ Pass) → a + t ≤ m
     → firstFrom f (m - a) a ≡ firstFrom f (m - (a + t)) (a + t)
 skip f m a zero all h = ap (λ (k : ℕ). firstFrom f (m - k) k) (omega arith)
@@ -207,7 +207,7 @@ module _ (t : Tree) (im : Images) (bus : ℕ) (gs : List Agent) (is : Gathered t
       (shown-moves bus space a x d (firstTwo (claimants t im space bus d a)) p))
       e
 
-  -- past all up to which every claim stays the same
+  -- where a value passes, the search goes on after the stretch in which every claim stays the same
   pub leap : (last : ℕ) → a ≤ last → atValue t im bus space a ≡ Pass
       → firstFrom (atValue t im bus space) (last + 1 - a) a
       ≡ firstFrom (atValue t im bus space) (last + 1 - (untilAll gs space a n 0 last + 1)) (untilAll gs space a n 0 last + 1)

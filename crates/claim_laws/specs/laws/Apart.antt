@@ -42,11 +42,11 @@ pub agent-other : (t : Tree) (im : Images) (bus i g : ℕ) (f : List ℕ → Lis
 agent-other t im bus i g f hf pl right ne =
     agent-view t (onNode t im i f) im bus g (view-other t im i f hf pl right g ne)
 
--- images and themselves
+-- images differ in nothing from themselves
 pub same-refl : (t : Tree) (im : Images) → SameButStatus t im im
 same-refl t im = record { lengths = λ k. refl; views = λ i h. record { bits = λ k. refl; above = λ k. refl } }
 
--- a chain of them
+-- images that differ in status bits alone, one after another
 pub same-trans : {t : Tree} {im im' im'' : Images} → SameButStatus t im im' → SameButStatus t im' im'' → SameButStatus t im im''
 same-trans s r =
     record {

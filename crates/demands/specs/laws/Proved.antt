@@ -2,17 +2,14 @@
 use mathlib.Core.Path.{_≡_, ap}
 use mathlib.Core.Bool.{Bool}
 use mathlib.Core.List.{List}
-use Prim.Native.Nat.{ℕ, _<_}
-use lib.ListN.{getD}
+use Prim.Native.Nat.{ℕ}
 use Rattle.rack.specs.declared.Rack.{Rack}
-use Rattle.rack.specs.definitions.Tree.{Tree}
 use Rattle.rack.specs.definitions.Grow.{tree}
 use Rattle.rack_laws.specs.laws.Refusals as refusals
 use Rattle.rack_laws.specs.laws.Stored.{accepted-stored}
 use Rattle.register_image.specs.definitions.Image.{Images}
 use Rattle.check_search.specs.declared.Report.the-variants.{Pass}
 use Rattle.file_record.specs.declared.Class.{Class}
-use Rattle.file_record.specs.declared.Event.{Event}
 use Rattle.file_record.specs.definitions.Load.{Loading}
 use Rattle.file_record.specs.laws.Turns.{read-over, read-empty}
 use Rattle.file_laws.specs.laws.Refused as file

@@ -23,28 +23,12 @@ use Rattle.event_run.specs.declared.Answer.the-variants.{Ended, Checked}
 -- a configuration access: bus, device times 8 plus function, register, enables and data
 abbrev pub configuration : Bool → ℕ → ℕ → ℕ → ℕ → ℕ → Access
 configuration write bus devfn register enables put =
-    record {
-      space = space.Configuration;
-      write = write;
-      address = bus;
-      devfn = devfn;
-      register = register;
-      enables = enables;
-      «data» = put;
-    }
+    record { space = space.Configuration; write = write; address = bus; devfn = devfn; register = register; enables = enables; «data» = put }
 
 -- a memory or I/O access: '0 read or 1 write', address
 abbrev pub addressed : Space → ℕ → ℕ → Access
 addressed s direction address =
-    record {
-      space = s;
-      write = eqb direction 1;
-      address = address;
-      devfn = 0;
-      register = 0;
-      enables = 0;
-      «data» = 0;
-    }
+    record { space = s; write = eqb direction 1; address = address; devfn = 0; register = 0; enables = 0; «data» = 0 }
 
 -- an access that ended, with the images that it leaves
 abbrev pub answers : ℕ → Ending → Images → Result Answer

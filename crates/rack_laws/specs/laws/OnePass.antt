@@ -9,7 +9,7 @@ use borrow.Author.Tests.{eq-eqb, ne-eqb, eqb-true, eqb-false, lt-ltb, le-ltb, lt
 use lib.Dec.{ltb, eqb}
 use Rattle.rack.specs.declared.Range.{Range}
 use Rattle.rack.specs.declared.Node.{Node}
-use Rattle.rack.specs.definitions.Node.{isBridge, spelt, noNode}
+use Rattle.rack.specs.definitions.Node.{isBridge, spelt}
 use Rattle.rack.specs.laws.Bools.{tested}
 use Rattle.rack.specs.definitions.Tree.{Tree, placeOf, imageCount}
 use Rattle.rack.specs.laws.TreeLaws.{tree-same, place-same}

@@ -12,7 +12,7 @@ use Rattle.rack.specs.declared.Kind.the-variants.{Bridge, Device}
 use Rattle.rack.specs.declared.Node.{Node}
 use Rattle.register_header.specs.laws.Bits.{bit, bit-and, bit-of-zero}
 use Rattle.register_header.specs.definitions.Tables.{writeTable, clearTable, resetTable}
-use Rattle.register_header.specs.definitions.Mask.{regionByte, inRegion, regionWrite, regionReset, writeMask, clearMask, resetByte}
+use Rattle.register_header.specs.definitions.Mask.{regionByte, inRegion, regionWrite, writeMask, clearMask}
 use Rattle.register_header.specs.laws.Every.{every, at, past}
 
 -- an entry's two masks and its reset value are bytes of which no two have a common bit; in a device's regions no bit is cleared

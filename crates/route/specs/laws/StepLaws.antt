@@ -71,7 +71,7 @@ module _ (t : Tree) (x : Access) where
       (look t im x bus driver type0 .after)
       (λ g u. omega (arith, step-le left u (otherBus t bus g) g (turnsType0 t u x bus g))))
 
-  -- a route has crossed no more bridges than there was leave for
+  -- a route crosses no more bridges than it may
   pub bus-le : (left : ℕ) (im : Images) (bus driver : ℕ) (type0 : Bool)
       → busStep (left + left + 1) t im x bus driver type0 .answer .crossings ≤ left
   bus-le left im bus driver type0 =

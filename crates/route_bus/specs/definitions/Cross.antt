@@ -69,10 +69,7 @@ passed t im x bus g Abort =
     record { answer = lastOutcome t im x g; after = lastImages t im bus g (lastOutcome t im x g) }
 passed t im x bus g Done = record { answer = Done; after = im }
 passed t im x bus g Target =
-    record {
-      answer = Target;
-      after = signalled t (statusNode t im g (towardsLater bus g) ReceivedTargetAbort) bus g;
-    }
+    record { answer = Target; after = signalled t (statusNode t im g (towardsLater bus g) ReceivedTargetAbort) bus g }
 
 -- the end of a route on its way back through bridge g, and the images that this leaves
 abbrev pub passedEnd : Tree → Images → Access → ℕ → ℕ → End → End
