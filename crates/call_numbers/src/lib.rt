@@ -6,7 +6,7 @@ ghost use Rattle.event_run.specs.definitions.Answers.{endingNumber, endingValue
 ghost use Rattle.check_search.specs.definitions.Report.{reportNumber, reportValues};
 ghost use Rattle.call_numbers.specs.definitions.Numbers.{eight, zeros, numbersOf, codeOf, replyNumbers, endsCode, endsNumbers};
 ghost use Rattle.claim_agent.specs.definitions.Space.{spaceNumber};
-use call_table::EndsReply;
+use call_table::RangeReply;
 use call_table::Reply;
 use check_search::Report;
 use claim_agent::Space;
@@ -137,15 +137,17 @@ pub fn put_reply(answer: &mut [u64; 8], r: Reply) -> u8
     }
 }
 
-// Both ends of a window or region; 0, or the refusal's number.
-pub fn put_ends(answer: &mut [u64; 8], e: EndsReply) -> u8
+// Both ends of a window or region, none where it is empty; 0, or the refusal's number.
+pub fn put_ends(answer: &mut [u64; 8], e: RangeReply) -> u8
     ensures { λ r. ⌜ (r ≡ endsCode e) × (now (answer .exit) ≡ endsNumbers e) ⌝ }
 {
     match e {
-        EndsReply::Refused(n) => refuse(answer, n),
-        EndsReply::Empty => refuse(answer, 0),
-        EndsReply::FirstLast(first, last) => {
-            put_eight(answer, 1, first, last, 0, 0, 0, 0);
+        RangeReply::Refused(n) => refuse(answer, n),
+        RangeReply::Range(r) => {
+            if r.last < r.first {
+                return refuse(answer, 0);
+            }
+            put_eight(answer, 1, r.first, r.last, 0, 0, 0, 0);
             0
         }
     }

@@ -7,7 +7,7 @@ use Rattle.register_image.specs.definitions.Image.{Images, Result}
 use Rattle.file_record.specs.declared.Event.{Event}
 use Rattle.call_table.specs.declared.Reply.{Reply}
 use Rattle.call_table.specs.declared.Number.{Number}
-use Rattle.call_table.specs.declared.EndsReply.{EndsReply}
+use Rattle.call_table.specs.declared.RangeReply.{RangeReply}
 use Rattle.call_table.specs.definitions.Call.{refusalBy, storeRefusal, readIn, storedIn, viewIn, sizeIn, endsIn, runIn, checkIn}
 
 module _ (t : Tree) {u : Tree} (e : u ≡ t) (im : Images) where
@@ -20,7 +20,7 @@ module _ (t : Tree) {u : Tree} (e : u ≡ t) (im : Images) where
   pub view-over : (i : ℕ) {r : List ℕ} → r ≡ viewIn u im i → r ≡ viewIn t im i
   view-over i = rw e (λ q. q)
 
-  pub ends-over : (i k : ℕ) {r : EndsReply} → r ≡ endsIn u im i k → r ≡ endsIn t im i k
+  pub ends-over : (i k : ℕ) {r : RangeReply} → r ≡ endsIn u im i k → r ≡ endsIn t im i k
   ends-over i k = rw e (λ q. q)
 
   pub refusal-over : (i register enables : ℕ) {r : ℕ} → r ≡ refusalBy u im (storeRefusal u i register enables)

@@ -3,8 +3,8 @@ ghost use mathlib.Core.Path.{_≡_};
 ghost use Rattle.rack.specs.definitions.Grow.{tree};
 ghost use Rattle.register_image.specs.definitions.Image.{images, result};
 ghost use Rattle.call_table.specs.definitions.Call.{refusalBy, readIn, storeRefusal, storedIn, viewIn, sizeIn, endsIn, runIn, checkIn};
-use call_table::EndsReply;
 use call_table::Number;
+use call_table::RangeReply;
 use call_table::Reply;
 use file_record::Event;
 use rack::Rack;
@@ -69,7 +69,7 @@ pub fn window_ends<'a>(
     devices: &'a [u8],
     node: u8,
     k: u8,
-) -> EndsReply
+) -> RangeReply
     ensures { λ r. ⌜ r ≡ endsIn (tree rack) (images (now (bridges .entry)) (now (devices .entry))) node k ⌝ }
 {
     let table = table_of(rack);

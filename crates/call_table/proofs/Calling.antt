@@ -4,6 +4,7 @@ use mathlib.Core.Bool.{Bool, _||_}
 use mathlib.Core.List.{List}
 use Prim.Native.Nat.{ℕ}
 use lib.Dec.{leb, ltb}
+use Rattle.rack.specs.declared.Range.{Range}
 use Rattle.rack.specs.definitions.Tree.{Tree}
 use Rattle.rack.specs.definitions.Refusal.{rackRefusal}
 use Rattle.rack.specs.definitions.First.{_when_, unless}
@@ -11,12 +12,11 @@ use Rattle.rack.specs.laws.FirstLaws.{or-this, or-next, or-none, unless-number,
 use Rattle.register_image.specs.definitions.Image.{Images, Result}
 use Rattle.register_image.specs.definitions.Fixed.{imageRefusal}
 use Rattle.register_header.specs.definitions.Register.{readRegister}
-use Rattle.claim_agent.specs.declared.Ends.{Ends}
 use Rattle.event_run.specs.declared.Answer.{Answer}
 use Rattle.call_table.specs.declared.Reply.the-variants as reply
 use Rattle.call_table.specs.declared.Number.the-variants as number
-use Rattle.call_table.specs.declared.EndsReply.{EndsReply}
-use Rattle.call_table.specs.definitions.Call.{refusalBy, endsReply, ran}
+use Rattle.call_table.specs.declared.RangeReply.the-variants as range-reply
+use Rattle.call_table.specs.definitions.Call.{refusalBy, ran}
 
 module _ (t : Tree) (im : Images) (own : ℕ) where
   -- 6 to 10, then 11 and 12, then the call's own
@@ -60,8 +60,8 @@ pub read-of : (register : ℕ) {part l : List ℕ} {v : ℕ} → part ≡ l → 
     → number.Value v ≡ number.Value (readRegister l register)
 read-of register ep ev = ap number.Value (ev ∙ ap (λ (p : List ℕ). readRegister p register) ep)
 
-pub ends-of : {x y : Ends} {b : EndsReply} → x ≡ y → b ≡ endsReply x → b ≡ endsReply y
-ends-of ex eb = eb ∙ ap endsReply ex
+pub range-of : {r s : Range} → r ≡ s → range-reply.Range r ≡ range-reply.Range s
+range-of e = ap range-reply.Range e
 
 pub ran-of : {a : Answer} {v : Images} {q : Result Answer} → record { answer = a; after = v } ≡ q
     → record { answer = reply.Answered a; after = v } ≡ ran q

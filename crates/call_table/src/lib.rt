@@ -5,6 +5,7 @@ pub mod refusal;
 pub mod runs;
 
 use event_run::Answer;
+use rack::Range;
 
 // The answer to an event, or the refusal's number.
 pub enum Reply {
@@ -19,8 +20,7 @@ pub enum Number {
 }
 
 // Both ends of a window or region, or the refusal's number.
-pub enum EndsReply {
+pub enum RangeReply {
     Refused(u8),
-    Empty,
-    FirstLast(u64, u64),
+    Range(Range),
 }

@@ -2,16 +2,15 @@
 ghost use mathlib.Core.Path.{_≡_};
 ghost use Rattle.rack.specs.definitions.Table.{treeOf};
 ghost use Rattle.register_image.specs.definitions.Image.{images};
-ghost use Rattle.call_table.specs.definitions.Call.{refusalBy, readIn, storeRefusal, storedIn, viewIn, sizeIn, endsReply, endsIn};
-use crate::EndsReply;
+ghost use Rattle.call_table.specs.definitions.Call.{refusalBy, readIn, storeRefusal, storedIn, viewIn, sizeIn, endsIn};
 use crate::Number;
+use crate::RangeReply;
 use crate::refusal::read_refusal;
 use crate::refusal::refusal_by;
 use crate::refusal::region_refusal;
 use crate::refusal::store_refusal;
 use crate::refusal::view_refusal;
 use crate::refusal::window_refusal;
-use claim_agent::Ends;
 use rack::table::Table;
 
 // A dword of a node's registers.
@@ -84,15 +83,6 @@ pub fn size_on(
     Number::Value(register_image::sizing::size_region(table, bridges, devices, node, region))
 }
 
-fn ends_reply(e: Ends) -> EndsReply
-    ensures { λ r. ⌜ r ≡ endsReply e ⌝ }
-{
-    match e {
-        Ends::Empty => EndsReply::Empty,
-        Ends::FirstLast(first, last) => EndsReply::FirstLast(first, last),
-    }
-}
-
 // Both ends of window k of a bridge (0 memory, 1 prefetchable, 2 I/O), or of region k of a device.
 pub fn ends_on<'a>(
     table: &Table,
@@ -100,13 +90,13 @@ pub fn ends_on<'a>(
     devices: &'a [u8],
     node: u8,
     k: u8,
-) -> EndsReply
+) -> RangeReply
     ensures { λ r. ⌜ r ≡ endsIn (treeOf (now (table .entry))) (images (now (bridges .entry)) (now (devices .entry))) node k ⌝ }
 {
     let own = window_refusal(table, node, k);
     let refusal = refusal_by(table, bridges, devices, own);
     if refusal != 0 {
-        return EndsReply::Refused(refusal);
+        return RangeReply::Refused(refusal);
     }
-    ends_reply(claim_bus::ends::window_ends(table, bridges, devices, node, k))
+    RangeReply::Range(claim_bus::ends::window_ends(table, bridges, devices, node, k))
 }

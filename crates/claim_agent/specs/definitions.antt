@@ -2,4 +2,4 @@ pub mod Space
 pub mod Agent
 pub mod Claim
 pub mod Claimants
-pub mod Ends
+pub mod WindowEnds

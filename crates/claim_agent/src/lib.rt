@@ -64,9 +64,3 @@ pub enum Claimants {
     One(u8),
     Two(u8, u8),
 }
-
-// Both ends of a window or region.
-pub enum Ends {
-    Empty,
-    FirstLast(u64, u64),
-}

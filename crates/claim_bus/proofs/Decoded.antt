@@ -3,10 +3,8 @@ use mathlib.Core.Path.{_≡_}
 use mathlib.Core.Bool.{Bool, true, false}
 use mathlib.Core.List.{List}
 use mathlib.Core.Logic.{_≢_}
-use Prim.Native.Nat.{ℕ, _/_, _%_, _<_}
-use native.Mathlib.Omega.{arith}
+use Prim.Native.Nat.{ℕ, _<_}
 use borrow.Author.Tests.{ne-eqb, lt-ltb}
-use lib.Dec.{eqb}
 use lib.ListN.{getD}
 use Rattle.rack.specs.declared.Node.{Node}
 use Rattle.rack.specs.declared.Range.{Range}
@@ -19,9 +17,8 @@ use Rattle.claim_window.specs.declared.Area.{Area}
 use Rattle.claim_window.specs.declared.Windows.{Windows}
 use Rattle.claim_window.specs.definitions.Range.{range, empty}
 use Rattle.claim_window.specs.definitions.Window.{windowsOf}
-use Rattle.claim_agent.specs.declared.Ends.{Ends}
 use Rattle.claim_agent.specs.definitions.Agent.{bridgeOf, areaIn, deviceOf}
-use Rattle.claim_agent.specs.definitions.Ends.{endsOf, windowIn, windowEnds}
+use Rattle.claim_agent.specs.definitions.WindowEnds.{windowIn, windowEnds}
 
 module _ (part : List ℕ) {c : ℕ} (ec : c ≡ getD part COMMAND 0) where
   pub bridge-is : {io memory master : Bool} {w : Windows} {s u : ℕ} {b : Range} → w ≡ windowsOf part → s ≡ getD part SECONDARY-BUS 0
@@ -68,13 +65,12 @@ module _ (w : Windows) {k : ℕ} where
   window-none x y z = rw (ne-eqb k 0 x, ne-eqb k 1 y, ne-eqb k 2 z)
 
 -- a window or region k of node i
-module _ (t : Tree) (im : Images) (i k : ℕ) {n : Node} {part : List ℕ} {b : Bool} {x : Ends} (h : k < 3) (en : n ≡ t .node i)
+module _ (t : Tree) (im : Images) (i k : ℕ) {n : Node} {part : List ℕ} {b : Bool} {r : Range} (h : k < 3) (en : n ≡ t .node i)
     (ep : part ≡ view t im i) (eb : b ≡ isBridge (n .kind)) where
-  pub ends-window : {w : Windows} {r : Range} → b ≡ true → w ≡ windowsOf part → r ≡ windowIn w k → x ≡ endsOf r
-      → x ≡ windowEnds t im i k
+  pub ends-window : {w : Windows} → b ≡ true → w ≡ windowsOf part → r ≡ windowIn w k → r ≡ windowEnds t im i k
   unfolding windowEnds
-  ends-window q ew er ex = simp (lt-ltb k 3 h, ← en, ← eb, q, ← ep, ex, er, ew)
+  ends-window q ew er = simp (lt-ltb k 3 h, ← en, ← eb, q, ← ep, er, ew)
 
-  pub ends-region : {s : Area} → b ≡ false → s ≡ areaIn n part k → x ≡ endsOf (s .range) → x ≡ windowEnds t im i k
+  pub ends-region : {s : Area} → b ≡ false → s ≡ areaIn n part k → r ≡ s .range → r ≡ windowEnds t im i k
   unfolding windowEnds
-  ends-region q es ex = simp (lt-ltb k 3 h, ← en, ← eb, q, ← ep, ex, es)
+  ends-region q es er = simp (lt-ltb k 3 h, ← en, ← eb, q, ← ep, er, es)

@@ -2,23 +2,13 @@
 ghost use mathlib.Core.Path.{_≡_};
 ghost use Rattle.rack.specs.definitions.Table.{treeOf};
 ghost use Rattle.register_image.specs.definitions.Image.{images};
-ghost use Rattle.claim_agent.specs.definitions.Ends.{endsOf, windowIn, windowEnds};
+ghost use Rattle.claim_agent.specs.definitions.WindowEnds.{windowIn, windowEnds};
 use crate::decode::area_in;
-use claim_agent::Ends;
 use claim_window::Windows;
 use rack::Range;
 use rack::table::Table;
 use rack::table::node_at;
 use register_image::image::view;
-
-fn ends_of(r: Range) -> Ends
-    ensures { λ s. ⌜ s ≡ endsOf r ⌝ }
-{
-    if r.last < r.first {
-        return Ends::Empty;
-    }
-    Ends::FirstLast(r.first, r.last)
-}
 
 fn window_in(w: Windows, k: u8) -> Range
     ensures { λ r. ⌜ r ≡ windowIn w k ⌝ }
@@ -36,7 +26,7 @@ fn window_in(w: Windows, k: u8) -> Range
 }
 
 // The ends of window k of a bridge (0 memory, 1 prefetchable, 2 I/O), or of region k of a device.
-pub fn window_ends<'a>(table: &Table, bridges: &'a [u8], devices: &'a [u8], i: u8, k: u8) -> Ends
+pub fn window_ends<'a>(table: &Table, bridges: &'a [u8], devices: &'a [u8], i: u8, k: u8) -> Range
     ensures { λ r. ⌜ r ≡ windowEnds (treeOf (now (table .entry))) (images (now (bridges .entry)) (now (devices .entry))) i k ⌝ }
 {
     if k < 3 {
@@ -45,10 +35,10 @@ pub fn window_ends<'a>(table: &Table, bridges: &'a [u8], devices: &'a [u8], i: u
         let kind = n.kind;
         if rack::is_bridge(kind) {
             let w = claim_window::decode::windows_of(part);
-            return ends_of(window_in(w, k));
+            return window_in(w, k);
         }
         let area = area_in(n, part, k);
-        return ends_of(area.range);
+        return area.range;
     }
-    Ends::Empty
+    Range { first: 1, last: 0 }
 }

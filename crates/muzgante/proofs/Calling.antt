@@ -17,7 +17,7 @@ use Rattle.file_record.specs.definitions.Events.{eventIn, eventBytes}
 use Rattle.file_record.specs.definitions.Load.{rackAlone}
 use Rattle.file_record.specs.definitions.Loads.{Loads}
 use Rattle.call_table.specs.declared.Reply.{Reply}
-use Rattle.call_table.specs.declared.EndsReply.{EndsReply}
+use Rattle.call_table.specs.declared.RangeReply.{RangeReply}
 use Rattle.call_table.specs.definitions.Call.{runIn, checkIn, endsIn}
 use Rattle.call_numbers.specs.definitions.Numbers.{zeros, codeOf, replyNumbers, endsCode, endsNumbers}
 use Rattle.muzgante.specs.definitions.Called.{called, refusedCall, repliedCall, endsCall, rackRun, rackCheck, rackWindow, resetRefusal, rackReset}
@@ -80,11 +80,11 @@ module _ (b : List ℕ) {l : Loaded} where
     unfolding rackWindow
     window-without-rack i k bad er en = told bs ds er en ∙ sym (is-refused (loads .refusal) _ _ bad)
 
-    pub window-told : (i k : ℕ) → l .refusal ≡ 0 → {e : EndsReply} → e ≡ endsIn (treeOf (l .table)) (images bs ds) i k
+    pub window-told : (i k : ℕ) → l .refusal ≡ 0 → {e : RangeReply} → e ≡ endsIn (treeOf (l .table)) (images bs ds) i k
         → r ≡ endsCode e → ns ≡ endsNumbers e → called r ns bs ds ≡ rackWindow b (images bs ds) i k
     unfolding rackWindow
     window-told i k good ee er en =
-        rw (er, en) (ap (λ (e : EndsReply). endsCall e (images bs ds)) (rw (held loads good) at ee))
+        rw (er, en) (ap (λ (e : RangeReply). endsCall e (images bs ds)) (rw (held loads good) at ee))
         ∙ sym (is-given (loads .refusal) _ _ good)
 
   -- the reset: a refused one writes nothing

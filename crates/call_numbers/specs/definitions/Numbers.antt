@@ -1,13 +1,15 @@
 -- An answer as eight numbers: its own, the fields of its line, and zeros after them; and what a call returns with it.
 use Prim.Native.Nat.{ℕ}
+use mathlib.Core.Bool.{cond}
 use mathlib.Core.List.{List, [], _∷_, _++_}
 use lib.ListN.{take}
+use Rattle.claim_window.specs.definitions.Range.{isEmpty}
 use Rattle.event_run.specs.declared.Answer.{Answer}
 use Rattle.event_run.specs.definitions.Answers.{answerNumber, answerValues}
 use Rattle.call_table.specs.declared.Reply.{Reply}
 use Rattle.call_table.specs.declared.Reply.the-variants as reply
-use Rattle.call_table.specs.declared.EndsReply.{EndsReply}
-use Rattle.call_table.specs.declared.EndsReply.the-variants as ends-reply
+use Rattle.call_table.specs.declared.RangeReply.{RangeReply}
+use Rattle.call_table.specs.declared.RangeReply.the-variants as range-reply
 
 abbrev pub zeros : List ℕ
 zeros = 0 ∷ 0 ∷ 0 ∷ 0 ∷ 0 ∷ 0 ∷ 0 ∷ 0 ∷ []
@@ -29,13 +31,11 @@ abbrev pub replyNumbers : Reply → List ℕ
 replyNumbers (reply.Refused n) = zeros
 replyNumbers (reply.Answered a) = numbersOf a
 
--- both ends of a window or region: 1, the first and the last address; 0 where it is empty
-abbrev pub endsCode : EndsReply → ℕ
-endsCode (ends-reply.Refused n) = n
-endsCode ends-reply.Empty = 0
-endsCode (ends-reply.FirstLast first last) = 0
+-- both ends of a window or region: 1, the first and the last address; all 0 where it is empty
+abbrev pub endsCode : RangeReply → ℕ
+endsCode (range-reply.Refused n) = n
+endsCode (range-reply.Range r) = 0
 
-abbrev pub endsNumbers : EndsReply → List ℕ
-endsNumbers (ends-reply.Refused n) = zeros
-endsNumbers ends-reply.Empty = zeros
-endsNumbers (ends-reply.FirstLast first last) = eight 1 (first ∷ last ∷ [])
+abbrev pub endsNumbers : RangeReply → List ℕ
+endsNumbers (range-reply.Refused n) = zeros
+endsNumbers (range-reply.Range r) = cond (isEmpty r) zeros (eight 1 (r .first ∷ r .last ∷ []))

@@ -11,9 +11,7 @@ use Rattle.register_header.specs.definitions.Register.{readRegister}
 use Rattle.register_image.specs.definitions.Image.{Images, Result, view, writeNode}
 use Rattle.register_image.specs.definitions.Fixed.{imageRefusal}
 use Rattle.register_image.specs.definitions.Sizing.{sizeRegion}
-use Rattle.claim_agent.specs.declared.Ends.{Ends}
-use Rattle.claim_agent.specs.declared.Ends.the-variants as ends
-use Rattle.claim_agent.specs.definitions.Ends.{windowEnds}
+use Rattle.claim_agent.specs.definitions.WindowEnds.{windowEnds}
 use Rattle.check_search.specs.definitions.Check.{check}
 use Rattle.file_record.specs.declared.Event.{Event}
 use Rattle.file_record.specs.definitions.Events.{eventWrong, registerWrong, writeWrong}
@@ -24,8 +22,8 @@ use Rattle.call_table.specs.declared.Reply.{Reply}
 use Rattle.call_table.specs.declared.Reply.the-variants as reply
 use Rattle.call_table.specs.declared.Number.{Number}
 use Rattle.call_table.specs.declared.Number.the-variants as number
-use Rattle.call_table.specs.declared.EndsReply.{EndsReply}
-use Rattle.call_table.specs.declared.EndsReply.the-variants as ends-reply
+use Rattle.call_table.specs.declared.RangeReply.{RangeReply}
+use Rattle.call_table.specs.declared.RangeReply.the-variants as range-reply
 
 -- 01: 'Calls apply 6 to 10 to the decoded rack node by node, as a file would meet them, then 11 to 13, and return the number'; 0
 -- where the call is accepted. `own` is the number of what the call itself is given
@@ -85,12 +83,8 @@ unfoldable pub viewIn : Tree → Images → ℕ → List ℕ
 viewIn t im i = unless (refusalBy t im (viewRefusal t i)) (view t im i) (λ n. [])
 
 -- both ends of a window or region
-abbrev pub endsReply : Ends → EndsReply
-endsReply ends.Empty = ends-reply.Empty
-endsReply (ends.FirstLast first last) = ends-reply.FirstLast first last
-
-unfoldable pub endsIn : Tree → Images → ℕ → ℕ → EndsReply
-endsIn t im i k = unless (refusalBy t im (windowRefusal t i k)) (endsReply (windowEnds t im i k)) ends-reply.Refused
+unfoldable pub endsIn : Tree → Images → ℕ → ℕ → RangeReply
+endsIn t im i k = unless (refusalBy t im (windowRefusal t i k)) (range-reply.Range (windowEnds t im i k)) range-reply.Refused
 
 -- the answer to an event that was run, with the images that it leaves
 abbrev pub ran : Result Answer → Result Reply

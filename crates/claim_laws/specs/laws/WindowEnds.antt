@@ -1,4 +1,4 @@
--- Both ends of a window are in it, and what is next to them outside is not; the ends that are printed are those.
+-- Both ends of a window are in it, and what is next to them outside is not; a range is empty exactly where no address is in it.
 use mathlib.Core.Path.{_≡_, refl, sym, _∙_}
 use mathlib.Core.Bool.{Bool, true, false, not, _&&_, true≢false}
 use mathlib.Core.List.{List}
@@ -11,11 +11,9 @@ use borrow.Author.Tests.{le-leb, lt-leb, lt-ltb, le-ltb, leb-true, leb-false, lt
 use Rattle.rack.specs.laws.Bools.{tested, both}
 use Rattle.register_header.specs.definitions.PciRegs.{IO-BASE, IO-LIMIT, IO-BASE-UPPER16, IO-LIMIT-UPPER16}
 use Rattle.rack.specs.declared.Range.{Range}
-use Rattle.claim_window.specs.definitions.Range.{within, window}
+use Rattle.claim_window.specs.definitions.Range.{within, isEmpty, window}
 use Rattle.claim_window.specs.definitions.Window.{ioGranule, windowsOf}
 use Rattle.claim_window.specs.definitions.Inside.{inIo}
-use Rattle.claim_agent.specs.declared.Ends.the-variants.{Empty, FirstLast}
-use Rattle.claim_agent.specs.definitions.Ends.{endsOf}
 
 -- an address between the ends is within
 pub is-within : (r : Range) (a : ℕ) → r .first ≤ a → a ≤ r .last → within r a ≡ true
@@ -113,40 +111,24 @@ module _ (part : List ℕ) (h : ioGranule part IO-BASE IO-BASE-UPPER16 ≤ ioGra
       (not-below (limit * 2 ^ 12 + (2 ^ 12 - 1)) 0x10000)
 
 module _ (r : Range) where
-  -- no ends are printed where no address is within
-  pub ends-none : ((a : ℕ) → within r a ≡ false) → endsOf r ≡ Empty
-  unfolding endsOf
-  ends-none n =
-      tested (ltb (r .last) (r .first)) (λ q. rw q)
+  -- a range is empty where no address is within
+  pub is-empty : ((a : ℕ) → within r a ≡ false) → isEmpty r ≡ true
+  is-empty n =
+      tested (isEmpty r) (λ q. q)
       (λ q.
       absurd (true≢false (sym (is-within r (r .first) (omega arith) (ltb-false (r .last) (r .first) q)) ∙ n (r .first))))
 
-  -- and the converse
-  pub none-ends : endsOf r ≡ Empty → (a : ℕ) → within r a ≡ false
-  unfolding endsOf
-  none-ends e a =
-      tested (ltb (r .last) (r .first)) (λ q. none-within r a (ltb-true (r .last) (r .first) q))
-      (λ q. let s : FirstLast (r .first) (r .last) ≡ Empty = rw q at e in
-      let z : _≡_ {A = ℕ} 0 1 = cc in absurd (omega arith))
+  -- and only there
+  pub empty-none : isEmpty r ≡ true → (a : ℕ) → within r a ≡ false
+  empty-none e a = none-within r a (ltb-true (r .last) (r .first) e)
 
-  -- where an address is within, they are the range's ends
-  pub ends-some : (a : ℕ) → within r a ≡ true → endsOf r ≡ FirstLast (r .first) (r .last)
-  unfolding endsOf
-  ends-some a e = rw (le-ltb (r .last) (r .first) (omega (arith, within-ends r a e)))
+  -- one with an address within is not empty
+  pub not-empty : (a : ℕ) → within r a ≡ true → isEmpty r ≡ false
+  not-empty a e = le-ltb (r .last) (r .first) (omega (arith, within-ends r a e))
 
-  -- both of which are within, and every address that is lies between them
-  pub ends-both : (x y : ℕ) → endsOf r ≡ FirstLast x y
-      → (within r x ≡ true) × (within r y ≡ true) × ((a : ℕ) → within r a ≡ true → (x ≤ a) × (a ≤ y))
-  unfolding endsOf
-  ends-both x y e =
-      tested (ltb (r .last) (r .first))
-      (λ q. let s : Empty ≡ FirstLast x y = rw q at e in let z : _≡_ {A = ℕ} 0 1 = cc in absurd (omega arith))
-      (λ q.
-      let s : FirstLast (r .first) (r .last) ≡ FirstLast x y = rw q at e in
-      let ex : r .first ≡ x = cc in
-      let ey : r .last ≡ y = cc in
-      let h : r .first ≤ r .last = ltb-false (r .last) (r .first) q in (
-        is-within r x (omega arith) (omega arith),
-        is-within r y (omega arith) (omega arith),
-        λ a i. let b = within-ends r a i in (omega arith, omega arith),
-      ))
+  -- one that is not empty has both its ends within, and every address within lies between them
+  pub ends-both : isEmpty r ≡ false
+      → (within r (r .first) ≡ true) × (within r (r .last) ≡ true) × ((a : ℕ) → within r a ≡ true → (r .first ≤ a) × (a ≤ r .last))
+  ends-both e =
+      let h = ltb-false (r .last) (r .first) e in
+      (is-within r (r .first) (omega arith) h, is-within r (r .last) h (omega arith), within-ends r)

@@ -11,9 +11,7 @@ use Rattle.rack.specs.laws.FirstLaws.{or-this, or-next, or-none, unless-number,
 use Rattle.register_image.specs.definitions.Image.{Images}
 use Rattle.register_image.specs.definitions.Fixed.{lengthsWrong}
 use Rattle.register_image.specs.definitions.Reset.{resetImages}
-use Rattle.claim_agent.specs.declared.Ends.{Ends}
-use Rattle.claim_agent.specs.declared.Ends.the-variants.{Empty, FirstLast}
-use Rattle.claim_agent.specs.definitions.Ends.{windowEnds}
+use Rattle.claim_agent.specs.definitions.WindowEnds.{windowEnds}
 use Rattle.check_search.specs.definitions.Check.{check}
 use Rattle.file_record.specs.definitions.Events.{eventIn, eventBytes}
 use Rattle.file_record.specs.definitions.Load.{rackAlone}
@@ -22,9 +20,10 @@ use Rattle.event_run.specs.declared.Answer.the-variants.{Checked}
 use Rattle.event_run.specs.definitions.Run.{eventRun}
 use Rattle.call_table.specs.declared.Reply.{Reply}
 use Rattle.call_table.specs.declared.Reply.the-variants.{Answered}
-use Rattle.call_table.specs.declared.EndsReply.{EndsReply}
-use Rattle.call_table.specs.definitions.Call.{refusalBy, windowRefusal, eventRefusal, endsReply, ran, runIn, checkIn, endsIn}
-use Rattle.call_numbers.specs.definitions.Numbers.{zeros, endsCode}
+use Rattle.call_table.specs.declared.RangeReply.{RangeReply}
+use Rattle.call_table.specs.declared.RangeReply.the-variants as range-reply
+use Rattle.call_table.specs.definitions.Call.{refusalBy, windowRefusal, eventRefusal, ran, runIn, checkIn, endsIn}
+use Rattle.call_numbers.specs.definitions.Numbers.{zeros}
 use Rattle.muzgante.specs.definitions.Called.{Called, refusedCall, repliedCall, endsCall, rackRun, rackCheck, rackWindow, resetRefusal, rackReset}
 use Rattle.demand_calls.specs.laws.Refusing.{by-image, by-own, accepts, accepted}
 use Rattle.demand_calls.specs.definitions.CCalls.{InOrder}
@@ -122,19 +121,15 @@ module _ (b : List ℕ) (im : Images) where
 
   -- rack_window, accepted: both ends of the window or region
   pub window-refuses : (i k : ℕ) → InOrder b 0 im (windowRefusal (rackAlone b .tree) i k)
-      (endsCall (endsReply (windowEnds (rackAlone b .tree) im i k)) im) (rackWindow b im i k)
+      (endsCall (range-reply.Range (windowEnds (rackAlone b .tree) im i k)) im) (rackWindow b im i k)
   unfolding rackWindow outcome endsIn
   window-refuses i k =
-      in-order b 0 im (windowRefusal (rackAlone b .tree) i k) (endsCall (endsReply (windowEnds (rackAlone b .tree) im i k)) im)
-      (ends-code (windowEnds (rackAlone b .tree) im i k))
+      in-order b 0 im (windowRefusal (rackAlone b .tree) i k) (endsCall (range-reply.Range (windowEnds (rackAlone b .tree) im i k)) im)
+      refl
       (ap (λ (n : ℕ). unless n (endsCall (endsIn (rackAlone b .tree) im i k) im) (λ m. refusedCall m im))
       (nothing (rackAlone b .refusal))
       ∙ ap (λ (a : Called). unless (rackAlone b .refusal or 0) a (λ n. refusedCall n im))
-      (made (λ (e : EndsReply). endsCall e im) (refusalBy (rackAlone b .tree) im (windowRefusal (rackAlone b .tree) i k)) _ _))
-    where
-      ends-code : (e : Ends) → endsCode (endsReply e) ≡ 0
-      ends-code Empty = refl
-      ends-code (FirstLast first last) = refl
+      (made (λ (e : RangeReply). endsCall e im) (refusalBy (rackAlone b .tree) im (windowRefusal (rackAlone b .tree) i k)) _ _))
 
   pub window-keeps : (i k : ℕ) → rackWindow b im i k .after ≡ im
   unfolding rackWindow unless

@@ -12,11 +12,11 @@ use Rattle.register_image.specs.definitions.Image.{Images, view, writeNode}
 use Rattle.register_image.specs.definitions.Fixed.{imageRefusal}
 use Rattle.file_record.specs.declared.Event.{Event}
 use Rattle.event_run.specs.definitions.Run.{eventRun}
-use Rattle.claim_agent.specs.definitions.Ends.{windowEnds}
+use Rattle.claim_agent.specs.definitions.WindowEnds.{windowEnds}
 use Rattle.call_table.specs.declared.Reply.the-variants as reply
 use Rattle.call_table.specs.declared.Number.the-variants as number
-use Rattle.call_table.specs.declared.EndsReply.the-variants as ends-reply
-use Rattle.call_table.specs.definitions.Call.{refusalBy, readRefusal, storeRefusal, viewRefusal, regionRefusal, windowRefusal, eventRefusal, numberCode, numberValues, readIn, sizeIn, storedIn, viewIn, endsReply, endsIn, ran, runIn}
+use Rattle.call_table.specs.declared.RangeReply.the-variants as range-reply
+use Rattle.call_table.specs.definitions.Call.{refusalBy, readRefusal, storeRefusal, viewRefusal, regionRefusal, windowRefusal, eventRefusal, numberCode, numberValues, readIn, sizeIn, storedIn, viewIn, endsIn, ran, runIn}
 use Rattle.register_header.specs.definitions.Register.{readRegister}
 
 module _ (t : Tree) (im : Images) (own : ℕ) where
@@ -86,11 +86,11 @@ module _ (t : Tree) (im : Images) where
 
   -- both ends of a window or region: the refusal's number, or what the registers give
   pub ends-refused : (i k : ℕ) → (refusalBy t im (windowRefusal t i k) ≡ 0 → ⊥)
-      → endsIn t im i k ≡ ends-reply.Refused (refusalBy t im (windowRefusal t i k))
+      → endsIn t im i k ≡ range-reply.Refused (refusalBy t im (windowRefusal t i k))
   unfolding endsIn
   ends-refused i k ne = unless-number _ _ ne
 
-  pub ends-accepted : (i k : ℕ) → refusalBy t im (windowRefusal t i k) ≡ 0 → endsIn t im i k ≡ endsReply (windowEnds t im i k)
+  pub ends-accepted : (i k : ℕ) → refusalBy t im (windowRefusal t i k) ≡ 0 → endsIn t im i k ≡ range-reply.Range (windowEnds t im i k)
   unfolding endsIn
   ends-accepted i k z = unless-none _ _ z
 

@@ -16,11 +16,9 @@ use Rattle.register_image.specs.definitions.Reset.{resetPart}
 use Rattle.rack.specs.definitions.Tree.{Tree, host}
 use Rattle.rack.specs.definitions.Grow.{treeWith}
 use Rattle.register_image.specs.definitions.Image.{Images, images}
-use Rattle.claim_window.specs.definitions.Range.{empty}
+use Rattle.claim_window.specs.definitions.Range.{empty, isEmpty}
 use Rattle.claim_agent.specs.declared.Space.the-variants.{Memory, Configuration}
-use Rattle.claim_agent.specs.declared.Ends as ends
-use Rattle.claim_agent.specs.declared.Ends.the-variants.{Empty, FirstLast}
-use Rattle.claim_agent.specs.definitions.Ends.{endsOf, windowIn}
+use Rattle.claim_agent.specs.definitions.WindowEnds.{windowIn}
 use Rattle.route_bus.specs.declared.Access.{Access}
 use Rattle.route_bus.specs.declared.Sight.{Sight}
 use Rattle.route_bus.specs.declared.Sight.the-variants.{Ends, Crosses}
@@ -109,10 +107,6 @@ number memory = 0
 number prefetchable = 1
 number io = 2
 
-abbrev pub isEmpty : ends.Ends → Bool
-isEmpty Empty = true
-isEmpty (FirstLast first last) = false
-
 -- every address of a list has the answer
 abbrev pub each : Window → List ℕ → Bool → List ℕ → Bool
 each w part want [] = true
@@ -174,7 +168,7 @@ holds (sizes kind e seen size) =
     eqb (readBack (device kind e) (resetPart (device kind e)) BASE-ADDRESS) seen
     && eqb (sizePart (device kind e) (resetPart (device kind e)) kind BASE-ADDRESS) size
 holds (holds-of w ps ins outs) = each w (poked ps) true ins && each w (poked ps) false outs
-holds (none-in w ps) = isEmpty (endsOf (windowIn (windowsOf (poked ps)) (number w)))
+holds (none-in w ps) = isEmpty (windowIn (windowsOf (poked ps)) (number w))
 holds (crosses ps bus) = asType1 (poked ps) bus
 holds (clears k status put after) = eqb (statusAfter (node k noRegion) status put) after
 holds (checks fs r text) =

@@ -16,7 +16,7 @@ use Rattle.claim_agent.specs.declared.Space.the-variants.{Memory}
 use Rattle.claim_agent.specs.definitions.Agent.{bridgeOf, deviceOf, agentOf}
 use Rattle.claim_agent.specs.definitions.Claim.{primaryClaims, secondaryClaims, deviceClaims, hostClaims, claimsOf, windowsUntil, regionsUntil, untilOf}
 use Rattle.claim_agent.specs.definitions.Claimants.{claimantsIn}
-use Rattle.claim_agent.specs.definitions.Ends.{endsOf, windowIn}
+use Rattle.claim_agent.specs.definitions.WindowEnds.{windowIn}
 use Rattle.route_bus.specs.definitions.Look.{owned, claimed, look}
 use Rattle.route_bus.specs.definitions.Cross.{turnsType0}
 use Rattle.check_search.specs.declared.Report.the-variants.{Pass, Fault}
@@ -60,5 +60,5 @@ two-images = refl
 
 -- every row holds
 pub table : all rows ≡ true
-unfolding reportFields hexOf decimalOf decimalUpTo codesOf endsOf windowIn resetFrom resetByte regionReset regionWrite writeMask clearMask readRegister writeByte writeDword writeRegister readBack sizePart windowsOf insideIo nodesFrom nodePart view bridgeOf agentOf primaryClaims hostClaims claimsOf claimantsIn owned claimed look turnsType0 treeWith grown countOf spaced
+unfolding reportFields hexOf decimalOf decimalUpTo codesOf windowIn resetFrom resetByte regionReset regionWrite writeMask clearMask readRegister writeByte writeDword writeRegister readBack sizePart windowsOf insideIo nodesFrom nodePart view bridgeOf agentOf primaryClaims hostClaims claimsOf claimantsIn owned claimed look turnsType0 treeWith grown countOf spaced
 table = rw (three-faults, two-pass, three-rack, three-images, two-rack, two-images) refl

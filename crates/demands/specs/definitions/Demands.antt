@@ -16,7 +16,7 @@ use Rattle.register_image.specs.definitions.Fixed.{imageRefusal, lengthsWrong}
 use Rattle.register_image.specs.definitions.Reset.{resetImages}
 use Rattle.claim_agent.specs.declared.Space.{Space}
 use Rattle.claim_agent.specs.definitions.Space.{spaceNumber}
-use Rattle.claim_agent.specs.definitions.Ends.{windowEnds}
+use Rattle.claim_agent.specs.definitions.WindowEnds.{windowEnds}
 use Rattle.claim_laws.specs.definitions.Same.{SameButStatus}
 use Rattle.check_search.specs.declared.Report.the-variants.{Pass, Fault}
 use Rattle.check_search.specs.definitions.Check.{check}
@@ -30,7 +30,7 @@ use Rattle.event_run.specs.declared.Answer.the-variants.{Checked}
 use Rattle.event_run.specs.definitions.Run.{eventRun}
 use Rattle.call_table.specs.declared.Reply.the-variants as reply
 use Rattle.call_table.specs.declared.Number.the-variants as number
-use Rattle.call_table.specs.declared.EndsReply.the-variants as ends
+use Rattle.call_table.specs.declared.RangeReply.the-variants as range
 use Rattle.call_table.specs.definitions.Call as call
 use Rattle.call_table.specs.definitions.Call.{refusalBy, ran, runIn, checkIn}
 use Rattle.call_numbers.specs.definitions.Numbers.{eight, zeros}
@@ -98,9 +98,9 @@ module _ (rack : Rack) (im : Images) where
 
   pub record Window (i k : ℕ) : Type 0 where
     pub refused : (refusalBy (tree rack) im (call.windowRefusal (tree rack) i k) ≡ 0 → ⊥)
-        → call.endsIn (tree rack) im i k ≡ ends.Refused (refusalBy (tree rack) im (call.windowRefusal (tree rack) i k))
+        → call.endsIn (tree rack) im i k ≡ range.Refused (refusalBy (tree rack) im (call.windowRefusal (tree rack) i k))
     pub answers : refusalBy (tree rack) im (call.windowRefusal (tree rack) i k) ≡ 0
-        → call.endsIn (tree rack) im i k ≡ call.endsReply (windowEnds (tree rack) im i k)
+        → call.endsIn (tree rack) im i k ≡ range.Range (windowEnds (tree rack) im i k)
 
   pub record Run (e : Event) : Type 0 where
     pub refused : (refusalBy (tree rack) im (call.eventRefusal (tree rack) e) ≡ 0 → ⊥)
@@ -139,7 +139,7 @@ pub record Demand1 : Type 0 where
       (rackCheck b im)
   pub c-windows : (b : List ℕ) (im : Images) (i k : ℕ)
       → InOrder b 0 im (call.windowRefusal (rackAlone b .tree) i k)
-      (endsCall (call.endsReply (windowEnds (rackAlone b .tree) im i k)) im) (rackWindow b im i k)
+      (endsCall (range.Range (windowEnds (rackAlone b .tree) im i k)) im) (rackWindow b im i k)
   pub c-reset : (b : List ℕ) (im : Images) → Reset b im
 
 -- 2. 'Register reads and writes, claims and routes, downstream and upstream, are those of the PCI-to-PCI Bridge Architecture
@@ -160,7 +160,7 @@ pub record Demand1 : Type 0 where
 --   claim_agent      Agent::claims                  Claim.claimsOf
 --   claim_bus        decode::agent_at               Agent.agentOf
 --                    bus::claimants_of              Claimants.claimants
---                    ends::window_ends              Ends.windowEnds
+--                    ends::window_ends              WindowEnds.windowEnds
 --   route_bus        look::look_on                  Look.look
 --   route_bridge     crossed_by                     Cross.crossed
 --   route            route::route_configuration     Route.configure

@@ -7,7 +7,7 @@ use Rattle.register_image.specs.definitions.Fixed.{lengthsWrong}
 use Rattle.register_image.specs.definitions.Reset.{resetImages}
 use Rattle.file_record.specs.definitions.Events.{eventIn, eventBytes}
 use Rattle.file_record.specs.definitions.Load.{rackAlone}
-use Rattle.call_table.specs.declared.EndsReply.{EndsReply}
+use Rattle.call_table.specs.declared.RangeReply.{RangeReply}
 use Rattle.call_table.specs.declared.Reply.{Reply}
 use Rattle.call_table.specs.definitions.Call.{runIn, checkIn, endsIn}
 use Rattle.call_numbers.specs.definitions.Numbers.{zeros, codeOf, replyNumbers, endsCode, endsNumbers}
@@ -28,7 +28,7 @@ refusedCall refusal im = record { code = refusal; numbers = zeros; after = im }
 abbrev pub repliedCall : Result Reply → Called
 repliedCall r = record { code = codeOf (r .answer); numbers = replyNumbers (r .answer); after = r .after }
 
-abbrev pub endsCall : EndsReply → Images → Called
+abbrev pub endsCall : RangeReply → Images → Called
 endsCall e im = record { code = endsCode e; numbers = endsNumbers e; after = im }
 
 -- rack_run. 01: 'The two C calls take the rack records as bytes: 1 to 10 as for a file .. The event to run is read next, before 11: no

@@ -1,5 +1,5 @@
 use Rattle.call_table.specs.definitions.Call.{endsIn}
-use Rattle.call_table.proofs.Calling.{is-refused, is-given, ends-of}
+use Rattle.call_table.proofs.Calling.{is-refused, is-given, range-of}
 use borrow.Author.Needs.{needs}
 use Rattle.call_table.proofs.nodes.ends_on.Statement.{statement}
 use Rattle.call_table.proofs.nodes.ends_on.Tie as tie
@@ -17,12 +17,9 @@ returns c = search (is-refused, needs)
 window-ends-requires : tie.Need-window-ends-requires
 window-ends-requires c κs = search needs
 
-ends-reply-requires : tie.Need-ends-reply-requires
-ends-reply-requires c κs = search needs
-
 returns-2 : tie.Need-returns-2
 unfolding endsIn
-returns-2 c = search (is-given, ends-of, needs)
+returns-2 c = search (is-given, range-of, needs)
 
 pub ends-on-spec : {M : Type 1} → statement M
 ends-on-spec =
@@ -32,5 +29,4 @@ ends-on-spec =
     refusal-by-requires
     returns
     window-ends-requires
-    ends-reply-requires
     returns-2)

@@ -1,4 +1,4 @@
-use Rattle.claim_agent.specs.definitions.Ends.{windowEnds}
+use Rattle.claim_agent.specs.definitions.WindowEnds.{windowEnds}
 use borrow.Author.Tests.{le-ltb}
 use borrow.Author.Needs.{needs}
 use Rattle.claim_bus.proofs.Decoded.{ends-window, ends-region}
@@ -20,17 +20,11 @@ windows-of-requires c κs = search needs
 window-in-requires : tie.Need-window-in-requires
 window-in-requires c κs = search needs
 
-ends-of-requires : tie.Need-ends-of-requires
-ends-of-requires c κs = search needs
-
 returns : tie.Need-returns
 returns c = search (ends-window, needs)
 
 area-in-requires : tie.Need-area-in-requires
 area-in-requires c κs = search needs
-
-ends-of-requires-2 : tie.Need-ends-of-requires-2
-ends-of-requires-2 c κs = search needs
 
 returns-2 : tie.Need-returns-2
 returns-2 c = search (ends-region, needs)
@@ -48,9 +42,7 @@ window-ends-spec =
     is-bridge-requires
     windows-of-requires
     window-in-requires
-    ends-of-requires
     returns
     area-in-requires
-    ends-of-requires-2
     returns-2
     returns-3)

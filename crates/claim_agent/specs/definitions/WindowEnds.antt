@@ -9,21 +9,15 @@ use Rattle.rack.specs.declared.Range.{Range}
 use Rattle.claim_window.specs.declared.Windows.{Windows}
 use Rattle.claim_window.specs.definitions.Range.{empty}
 use Rattle.claim_window.specs.definitions.Window.{windowsOf}
-use Rattle.claim_agent.specs.declared.Ends.{Ends}
-use Rattle.claim_agent.specs.declared.Ends.the-variants.{Empty, FirstLast}
 use Rattle.claim_agent.specs.definitions.Agent.{areaIn}
-
--- a range's ends, or none where it is empty
-unfoldable pub endsOf : Range → Ends
-endsOf r = cond (ltb (r .last) (r .first)) Empty (FirstLast (r .first) (r .last))
 
 -- window 0 is memory, 1 prefetchable, 2 I/O; there is no other
 unfoldable pub windowIn : Windows → ℕ → Range
 windowIn w k = cond (eqb k 0) (w .memory) (cond (eqb k 1) (w .prefetchable) (cond (eqb k 2) (w .io) empty))
 
 -- the ends of window k of a bridge, or of region k of a device
-unfoldable pub windowEnds : Tree → Images → ℕ → ℕ → Ends
+unfoldable pub windowEnds : Tree → Images → ℕ → ℕ → Range
 windowEnds t im i k =
     cond (ltb k 3)
-    (endsOf (cond (isBridge (t .node i .kind)) (windowIn (windowsOf (view t im i)) k) (areaIn (t .node i) (view t im i) k .range)))
-    Empty
+    (cond (isBridge (t .node i .kind)) (windowIn (windowsOf (view t im i)) k) (areaIn (t .node i) (view t im i) k .range))
+    empty
