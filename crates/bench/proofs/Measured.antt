@@ -5,16 +5,13 @@ use native.Mathlib.Omega.{arith}
 use borrow.Author.Tests.{eq-eqb, ne-eqb}
 use Rattle.rack.specs.definitions.Tree.{Tree}
 use Rattle.rack.specs.definitions.Refusal.{rackRefusal}
-use Rattle.register_image.specs.definitions.Image.{Images, Result}
+use Rattle.register_image.specs.definitions.Image.{Images, Result, gives}
 use Rattle.route_bus.specs.declared.Access.{Access}
 use Rattle.route_bus.specs.declared.Route.{Route}
 use Rattle.route.specs.definitions.Route.{access}
 use Rattle.check_search.specs.declared.Report.{Report}
 use Rattle.check_search.specs.definitions.Check.{check}
 use Rattle.bench.specs.definitions.Shown.{shownOf, reading, valueOf, nothing, lastOf, checkRounds}
-
-abbrev gives : Route → Images → Result Route
-gives r v = record { answer = r; after = v }
 
 -- what a route shows, and the images that it leaves
 pub route-shown : (t : Tree) (im : Images) (i address : ℕ) {x : Access} {r : Route} {v : Images} {s : ℕ} → x ≡ reading address

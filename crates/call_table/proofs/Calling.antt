@@ -9,7 +9,7 @@ use Rattle.rack.specs.definitions.Tree.{Tree}
 use Rattle.rack.specs.definitions.Refusal.{rackRefusal}
 use Rattle.rack.specs.definitions.First.{_when_, unless}
 use Rattle.rack.specs.laws.FirstLaws.{or-this, or-next, or-none, unless-number, unless-none}
-use Rattle.register_image.specs.definitions.Image.{Images, Result}
+use Rattle.register_image.specs.definitions.Image.{Images, Result, gives}
 use Rattle.register_image.specs.definitions.Fixed.{imageRefusal}
 use Rattle.register_header.specs.definitions.Register.{readRegister}
 use Rattle.event_run.specs.declared.Answer.{Answer}
@@ -63,8 +63,8 @@ read-of register ep ev = ap number.Value (ev ∙ ap (λ (p : List ℕ). readRegi
 pub range-of : {r s : Range} → r ≡ s → range-reply.Range r ≡ range-reply.Range s
 range-of e = ap range-reply.Range e
 
-pub ran-of : {a : Answer} {v : Images} {q : Result Answer} → record { answer = a; after = v } ≡ q
-    → record { answer = reply.Answered a; after = v } ≡ ran q
+pub ran-of : {a : Answer} {v : Images} {q : Result Answer} → gives a v ≡ q
+    → gives (reply.Answered a) v ≡ ran q
 ran-of e = ap ran e
 
 -- 13 of a field: what the code has looked up is the tree's

@@ -4,7 +4,7 @@ use mathlib.Core.Bool.{true, false}
 use Prim.Native.Nat.{ℕ}
 use Rattle.rack.specs.definitions.Tree.{Tree}
 use Rattle.register_header.specs.definitions.Register.{readRegister}
-use Rattle.register_image.specs.definitions.Image.{Images, Result, view, writeNode}
+use Rattle.register_image.specs.definitions.Image.{Images, Result, view, writeNode, gives}
 use Rattle.claim_agent.specs.declared.Space.the-variants as space
 use Rattle.route_bus.specs.declared.Access.{Access}
 use Rattle.route_bus.specs.declared.End.{End}
@@ -18,9 +18,6 @@ use Rattle.event_run.specs.declared.Ending.the-variants.{Data, Stored}
 use Rattle.event_run.specs.declared.Answer.{Answer}
 use Rattle.event_run.specs.declared.Answer.the-variants.{Checked}
 use Rattle.event_run.specs.definitions.Run.{configuration, addressed, answers, registerOf, endedAt, ended, configured, accessed, eventRun}
-
-abbrev gives : Route → Images → Result Route
-gives r v = record { answer = r; after = v }
 
 -- a register of the node that was reached
 module _ (t : Tree) (im : Images) (x : Access) (crossings g : ℕ) where
@@ -66,6 +63,6 @@ module _ (t : Tree) (im : Images) (e : Event) {x : Access} {a : Result Answer} w
 
 -- the check leaves both images as they were
 pub check-answered : (t : Tree) (im : Images) (e : Event) {r : Report} → e ≡ Check → r ≡ check t im
-    → record { answer = Checked r; after = im } ≡ eventRun t im e
+    → gives (Checked r) im ≡ eventRun t im e
 unfolding eventRun
 check-answered t im e ee er = rw (ee, er)

@@ -10,7 +10,7 @@ use Rattle.rack.specs.definitions.Tree.{Tree, parentOf}
 use Rattle.register_header.specs.definitions.PciRegs.{COMMAND, COMMAND-MASTER}
 use Rattle.register_header.specs.declared.Side.the-variants.{Primary}
 use Rattle.register_header.specs.declared.StatusBit.the-variants.{ReceivedTargetAbort}
-use Rattle.register_image.specs.definitions.Image.{Images, Result, view, statusNode}
+use Rattle.register_image.specs.definitions.Image.{Images, Result, view, statusNode, gives}
 use Rattle.route_bus.specs.declared.Access.{Access}
 use types.Run.{OneOf}
 use denote.Enum.Declared as declared
@@ -29,16 +29,10 @@ use Rattle.route_bus.proofs.Ended.{others, not-unclaimed}
 use Rattle.route.specs.definitions.Route.{busStep, bridgeStep, possible, from, received, returned, driven, access}
 use Rattle.route.specs.laws.StepLaws.{bus-ends-left, bus-on, bus-spent, bridge-on, bus-le}
 
-abbrev sees : Sight → Images → Result Sight
-sees s v = record { answer = s; after = v }
-
-abbrev gives : Route → Images → Result Route
-gives r v = record { answer = r; after = v }
-
 module _ (t : Tree) (im : Images) (x : Access) (bus driver : ℕ) (type0 : Bool) (left : ℕ) {s : Sight} {v : Images}
-    (el : sees s v ≡ look t im x bus driver type0) where
-  seen-as : {k : Sight} → s ≡ k → look t im x bus driver type0 ≡ sees k v
-  seen-as e = sym el ∙ ap (λ (k : Sight). sees k v) e
+    (el : gives s v ≡ look t im x bus driver type0) where
+  seen-as : {k : Sight} → s ≡ k → look t im x bus driver type0 ≡ gives k v
+  seen-as e = sym el ∙ ap (λ (k : Sight). gives k v) e
 
   pub step-ends : {e : End} → s ≡ Ends e → ends e v ≡ busStep (left + left + 1) t im x bus driver type0
   step-ends e = sym (bus-ends-left t im x bus driver type0 left (seen-as e))

@@ -10,7 +10,7 @@ use Rattle.rack.specs.definitions.Tree.{Tree}
 use Rattle.register_header.specs.definitions.PciRegs.{BRIDGE-CONTROL, BRIDGE-CTL-MASTER-ABORT}
 use Rattle.register_header.specs.declared.Side.{Side}
 use Rattle.register_header.specs.declared.StatusBit.the-variants.{ReceivedTargetAbort, SignaledTargetAbort}
-use Rattle.register_image.specs.definitions.Image.{Images, Result, view, statusNode}
+use Rattle.register_image.specs.definitions.Image.{Images, Result, view, statusNode, gives}
 use Rattle.route_bus.specs.declared.Access.{Access}
 use Rattle.route_bus.specs.declared.Outcome.{Outcome}
 use Rattle.route_bus.specs.declared.Outcome.the-variants.{Abort, Done, Target}
@@ -23,11 +23,8 @@ use Rattle.route_bus.specs.definitions.Look.{sideOn}
 use Rattle.route_bus.specs.definitions.Cross.{isPosted, towardsLater, lastOutcome, signalled, lastImages, passed, crossed}
 use Rattle.route_bus.proofs.Ended.{others, not-unclaimed}
 
-abbrev made : Outcome → Images → Result Outcome
-made o v = record { answer = o; after = v }
-
 abbrev routed : ℕ → End → Images → Result Route
-routed c e v = record { answer = record { crossings = c; end = e }; after = v }
+routed c e v = gives (record { crossings = c; end = e }) v
 
 module _ (t : Tree) (im : Images) (x : Access) (g : ℕ) {posted : Bool} (ep : posted ≡ isPosted (x .space) (x .write)) where
   pub last-posted : posted ≡ true → Done ≡ lastOutcome t im x g
@@ -55,21 +52,21 @@ module _ (t : Tree) (im : Images) (bus g : ℕ) {v : Images} where
 module _ (t : Tree) (im : Images) (x : Access) (bus g : ℕ) where
   -- the last bridge
   pub at-last : {o w : Outcome} {v : Images} → o ≡ Abort → w ≡ lastOutcome t im x g → v ≡ lastImages t im bus g w
-      → made w v ≡ passed t im x bus g o
+      → gives w v ≡ passed t im x bus g o
   unfolding passed
-  at-last eo ew ev = rw eo (ap₂ made ew (ev ∙ ap (lastImages t im bus g) ew))
+  at-last eo ew ev = rw eo (ap₂ gives ew (ev ∙ ap (lastImages t im bus g) ew))
 
-  pub at-done : {o : Outcome} → o ≡ Done → made Done im ≡ passed t im x bus g o
+  pub at-done : {o : Outcome} → o ≡ Done → gives Done im ≡ passed t im x bus g o
   unfolding passed
   at-done eo = rw eo
 
   -- an earlier bridge
   pub at-earlier : {o : Outcome} {s : Side} {u v : Images} → o ≡ Target → s ≡ towardsLater bus g
-      → u ≡ statusNode t im g s ReceivedTargetAbort → v ≡ signalled t u bus g → made Target v ≡ passed t im x bus g o
+      → u ≡ statusNode t im g s ReceivedTargetAbort → v ≡ signalled t u bus g → gives Target v ≡ passed t im x bus g o
   unfolding passed
   at-earlier eo es eu ev =
       rw eo
-      (ap (made Target)
+      (ap (gives Target)
       (ev ∙ ap (λ (k : Images). signalled t k bus g) (eu ∙ ap (λ (k : Side). statusNode t im g k ReceivedTargetAbort) es)))
 
   -- an access that was claimed, or not driven
@@ -80,7 +77,7 @@ module _ (t : Tree) (im : Images) (x : Access) (bus g : ℕ) where
 
   -- and one that was not claimed
   pub crossed-unclaimed : (r : Route) {holder : ℕ} {o w : Outcome} {v : Images} → r .end ≡ Unclaimed holder o
-      → made w v ≡ passed t im x bus g o → routed (r .crossings + 1) (Unclaimed holder w) v ≡ crossed t im x bus g r
+      → gives w v ≡ passed t im x bus g o → routed (r .crossings + 1) (Unclaimed holder w) v ≡ crossed t im x bus g r
   unfolding crossed ifUnclaimed
   crossed-unclaimed r {holder} e p =
       rw e (ap (λ (k : Result Outcome). routed (r .crossings + 1) (Unclaimed holder (k .answer)) (k .after)) p)

@@ -6,7 +6,7 @@ use borrow.Author.Tests.{eq-eqb, ne-eqb}
 use Rattle.rack.specs.definitions.Tree.{Tree}
 use Rattle.register_header.specs.declared.Side.{Side}
 use Rattle.register_header.specs.declared.StatusBit.the-variants.{ReceivedMasterAbort}
-use Rattle.register_image.specs.definitions.Image.{Images, Result, statusNode}
+use Rattle.register_image.specs.definitions.Image.{Images, Result, statusNode, gives}
 use Rattle.claim_agent.specs.declared.Claimants.{Claimants}
 use Rattle.claim_agent.specs.declared.Claimants.the-variants.{Nobody, One, Two}
 use Rattle.claim_agent.specs.definitions.Claimants.{claimants, firstTwo}
@@ -16,9 +16,6 @@ use Rattle.route_bus.specs.declared.End.the-variants.{Node, Unclaimed, C
 use Rattle.route_bus.specs.declared.Sight.{Sight}
 use Rattle.route_bus.specs.declared.Sight.the-variants.{Ends}
 use Rattle.route_bus.specs.definitions.Look.{sideOn, masterAbort, unclaimed, owned, claimed, target, direct, look}
-
-abbrev sees : Sight → Images → Result Sight
-sees s v = record { answer = s; after = v }
 
 module _ (t : Tree) (im : Images) (bus driver : ℕ) where
   pub abort-host : driver ≡ 255 → im ≡ masterAbort t im bus driver
@@ -30,7 +27,7 @@ module _ (t : Tree) (im : Images) (bus driver : ℕ) where
   unfolding masterAbort
   abort-other ne es ev = rw (ne-eqb driver 255 ne, ← es) ev
 
-  pub abort-seen : {v : Images} → v ≡ masterAbort t im bus driver → sees (Ends (Unclaimed bus Abort)) v ≡ unclaimed t im bus driver
+  pub abort-seen : {v : Images} → v ≡ masterAbort t im bus driver → gives (Ends (Unclaimed bus Abort)) v ≡ unclaimed t im bus driver
   unfolding unclaimed
   abort-seen ev = rw ev
 
@@ -40,7 +37,7 @@ module _ (t : Tree) (im : Images) (x : Access) (bus driver : ℕ) where
     unfolding direct
     direct-none e ev = rw (← eg, eq-eqb g 255 e) ev
 
-    pub direct-node : (g ≡ 255 → ⊥) → sees (Ends (Node g)) im ≡ direct t im x bus driver
+    pub direct-node : (g ≡ 255 → ⊥) → gives (Ends (Node g)) im ≡ direct t im x bus driver
     unfolding direct
     direct-node ne = rw (← eg, ne-eqb g 255 ne)
 
@@ -49,11 +46,11 @@ module _ (t : Tree) (im : Images) (x : Access) (bus driver : ℕ) where
     unfolding claimed
     claimed-none e ev = rw e ev
 
-    pub claimed-one : {g : ℕ} {s : Sight} → c ≡ One g → s ≡ owned t im x g → sees s im ≡ claimed t im x bus driver c
+    pub claimed-one : {g : ℕ} {s : Sight} → c ≡ One g → s ≡ owned t im x g → gives s im ≡ claimed t im x bus driver c
     unfolding claimed
     claimed-one e es = rw (e, es)
 
-    pub claimed-two : {y z : ℕ} → c ≡ Two y z → sees (Ends (Clash bus y z)) im ≡ claimed t im x bus driver c
+    pub claimed-two : {y z : ℕ} → c ≡ Two y z → gives (Ends (Clash bus y z)) im ≡ claimed t im x bus driver c
     unfolding claimed
     claimed-two e = rw e
 

@@ -8,7 +8,7 @@ use Rattle.rack.specs.definitions.First.{_when_, _or_, unless}
 use Rattle.rack.specs.definitions.Tree.{Tree}
 use Rattle.rack.specs.definitions.Refusal.{rackRefusal}
 use Rattle.register_header.specs.definitions.Register.{readRegister}
-use Rattle.register_image.specs.definitions.Image.{Images, Result, view, writeNode}
+use Rattle.register_image.specs.definitions.Image.{Images, Result, view, writeNode, gives}
 use Rattle.register_image.specs.definitions.Fixed.{imageRefusal}
 use Rattle.register_image.specs.definitions.Sizing.{sizeRegion}
 use Rattle.claim_agent.specs.definitions.WindowEnds.{windowEnds}
@@ -88,12 +88,12 @@ endsIn t im i k = unless (refusalBy t im (windowRefusal t i k)) (range-reply.Ran
 
 -- the answer to an event that was run, with the images that it leaves
 abbrev pub ran : Result Answer → Result Reply
-ran a = record { answer = reply.Answered (a .answer); after = a .after }
+ran a = gives (reply.Answered (a .answer)) (a .after)
 
 -- an event, the check too; a refusal leaves both images untouched
 unfoldable pub runIn : Tree → Images → Event → Result Reply
 runIn t im e =
-    unless (refusalBy t im (eventRefusal t e)) (ran (eventRun t im e)) (λ n. record { answer = reply.Refused n; after = im })
+    unless (refusalBy t im (eventRefusal t e)) (ran (eventRun t im e)) (λ n. gives (reply.Refused n) im)
 
 -- the check alone: 'A check changes no register'
 unfoldable pub checkIn : Tree → Images → Reply

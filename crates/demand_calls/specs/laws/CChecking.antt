@@ -8,7 +8,7 @@ use lib.Dec.{eqb}
 use lib.ListN.{getD}
 use borrow.Author.Tests.{eqb-true, eqb-false}
 use Rattle.rack.specs.laws.Bools.{tested}
-use Rattle.register_image.specs.definitions.Image.{Images}
+use Rattle.register_image.specs.definitions.Image.{Images, gives}
 use Rattle.register_image.specs.definitions.Fixed.{imageRefusal}
 use Rattle.claim_agent.specs.declared.Space.{Space}
 use Rattle.claim_agent.specs.declared.Space.the-variants.{Memory, Io, Configuration}
@@ -78,7 +78,7 @@ module _ (b : List ℕ) (im : Images) where
       → OneClaimant (rackAlone b .tree) im → rackCheck b im ≡ record { code = 0; numbers = eight 8 []; after = im }
   c-check-passes z y o =
       check-refuses b im .accepts z refl y refl .0
-      ∙ ap (λ (r : Report). repliedCall (record { answer = Answered (Checked r); after = im })) (passes (rackAlone b .tree) im o)
+      ∙ ap (λ (r : Report). repliedCall (gives (Answered (Checked r)) im)) (passes (rackAlone b .tree) im o)
 
   -- 'If it does not pass, it shows the clash, driver and two claimants that document 01 names first'
   pub c-check-faulted : (bus : ℕ) (space : Space) (a driver x y : ℕ)

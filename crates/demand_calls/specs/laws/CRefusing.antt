@@ -8,7 +8,7 @@ use borrow.Author.Tests.{eqb-true, eqb-false}
 use Rattle.rack.specs.laws.Bools.{tested}
 use Rattle.rack.specs.definitions.First.{_when_, _or_, unless}
 use Rattle.rack.specs.laws.FirstLaws.{or-this, or-next, or-none, unless-number, unless-none}
-use Rattle.register_image.specs.definitions.Image.{Images}
+use Rattle.register_image.specs.definitions.Image.{Images, gives}
 use Rattle.register_image.specs.definitions.Fixed.{lengthsWrong}
 use Rattle.register_image.specs.definitions.Reset.{resetImages}
 use Rattle.claim_agent.specs.definitions.WindowEnds.{windowEnds}
@@ -105,14 +105,14 @@ module _ (b : List ℕ) (im : Images) where
 
   -- rack_check, accepted: what the check says
   pub check-refuses : InOrder b 0 im 0
-      (repliedCall (record { answer = Answered (Checked (check (rackAlone b .tree) im)); after = im })) (rackCheck b im)
+      (repliedCall (gives (Answered (Checked (check (rackAlone b .tree) im))) im)) (rackCheck b im)
   unfolding rackCheck outcome checkIn
   check-refuses =
-      in-order b 0 im 0 (repliedCall (record { answer = Answered (Checked (check (rackAlone b .tree) im)); after = im })) refl
-      (ap (λ (n : ℕ). unless n (repliedCall (record { answer = checkIn (rackAlone b .tree) im; after = im })) (λ m. refusedCall m im))
+      in-order b 0 im 0 (repliedCall (gives (Answered (Checked (check (rackAlone b .tree) im))) im)) refl
+      (ap (λ (n : ℕ). unless n (repliedCall (gives (checkIn (rackAlone b .tree) im) im)) (λ m. refusedCall m im))
       (nothing (rackAlone b .refusal))
       ∙ ap (λ (a : Called). unless (rackAlone b .refusal or 0) a (λ n. refusedCall n im))
-      (made (λ (r : Reply). repliedCall (record { answer = r; after = im })) (refusalBy (rackAlone b .tree) im 0) _ _))
+      (made (λ (r : Reply). repliedCall (gives r im)) (refusalBy (rackAlone b .tree) im 0) _ _))
 
   -- 'A check changes no register'
   pub check-keeps : rackCheck b im .after ≡ im

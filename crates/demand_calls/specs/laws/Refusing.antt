@@ -8,7 +8,7 @@ use Rattle.rack.specs.definitions.First.{_when_, unless}
 use Rattle.rack.specs.laws.FirstLaws.{when-not, or-this, or-next, or-none, unless-number, unless-none}
 use Rattle.rack.specs.definitions.Tree.{Tree}
 use Rattle.rack.specs.definitions.Refusal.{rackRefusal}
-use Rattle.register_image.specs.definitions.Image.{Images, view, writeNode}
+use Rattle.register_image.specs.definitions.Image.{Images, view, writeNode, gives}
 use Rattle.register_image.specs.definitions.Fixed.{imageRefusal}
 use Rattle.file_record.specs.declared.Event.{Event}
 use Rattle.event_run.specs.definitions.Run.{eventRun}
@@ -118,7 +118,7 @@ module _ (t : Tree) (im : Images) where
 
   -- a refused event changes nothing and answers the refusal's number
   pub event-untouched : (e : Event) → (refusalBy t im (eventRefusal t e) ≡ 0 → ⊥)
-      → runIn t im e ≡ record { answer = reply.Refused (refusalBy t im (eventRefusal t e)); after = im }
+      → runIn t im e ≡ gives (reply.Refused (refusalBy t im (eventRefusal t e))) im
   unfolding runIn
   event-untouched e ne = unless-number _ _ ne
 

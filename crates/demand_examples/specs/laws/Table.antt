@@ -33,32 +33,20 @@ use Rattle.print_line.specs.definitions.Line.{reportFields, spaced}
 use Rattle.print_line.specs.definitions.Text.{hexOf, decimalOf, decimalUpTo, codesOf}
 
 -- the check is a search of every address: what the sweep finds in at most 40 stretches is what it finds (`checked`)
-three-faults : check (rackOf three) (imagesOf three) ≡ Fault 0 Memory 0x90000000 2 0 1
+found : (check (rackOf three) (imagesOf three) ≡ Fault 0 Memory 0x90000000 2 0 1) × (check (rackOf two) (imagesOf two) ≡ Pass)
 unfolding treeWith grown countOf resetFrom resetByte regionReset nodePart view nodesFrom bridgesFrom windowsOf areaOf area.holds insideMemory insideIo memoryUntil ioUntil cutAt cutPast cutIf cutLow bridgeOf deviceOf agentOf primaryClaims secondaryClaims deviceClaims hostClaims claimsOf windowsUntil regionsUntil untilOf claimantsIn firstIn shown atValue untilAll decoded sweepBy firstBy onBusBy checkBy
-three-faults = checked 40 _ _ _ refl
-
-two-pass : check (rackOf two) (imagesOf two) ≡ Pass
-unfolding treeWith grown countOf resetFrom resetByte regionReset nodePart view nodesFrom bridgesFrom windowsOf areaOf area.holds insideMemory insideIo memoryUntil ioUntil cutAt cutPast cutIf cutLow bridgeOf deviceOf agentOf primaryClaims secondaryClaims deviceClaims hostClaims claimsOf windowsUntil regionsUntil untilOf claimantsIn firstIn shown atValue untilAll decoded sweepBy firstBy onBusBy checkBy
-two-pass = checked 40 _ _ _ refl
+found = (checked 40 _ _ _ refl, checked 40 _ _ _ refl)
 
 -- both racks are accepted
-three-rack : rackRefusal (rackOf three) ≡ 0
+racks : (rackRefusal (rackOf three) ≡ 0) × (rackRefusal (rackOf two) ≡ 0)
 unfolding firstFrom first tooMany badParent highDevice takenDevice badRegion nodeRefusal someFrom treeWith grown countOf
-three-rack = refl
+racks = (refl, refl)
 
-three-images : imageRefusal (rackOf three) (imagesOf three) ≡ 0
+both-images : (imageRefusal (rackOf three) (imagesOf three) ≡ 0) × (imageRefusal (rackOf two) (imagesOf two) ≡ 0)
 unfolding lengthsWrong byteWrong imageRefusal someFrom treeWith grown countOf resetFrom resetByte regionReset regionWrite writeMask clearMask nodePart view
-three-images = refl
-
-two-rack : rackRefusal (rackOf two) ≡ 0
-unfolding firstFrom first tooMany badParent highDevice takenDevice badRegion nodeRefusal someFrom treeWith grown countOf
-two-rack = refl
-
-two-images : imageRefusal (rackOf two) (imagesOf two) ≡ 0
-unfolding lengthsWrong byteWrong imageRefusal someFrom treeWith grown countOf resetFrom resetByte regionReset regionWrite writeMask clearMask nodePart view
-two-images = refl
+both-images = (refl, refl)
 
 -- every row holds
 pub table : all rows ≡ true
 unfolding reportFields hexOf decimalOf decimalUpTo codesOf windowIn resetFrom resetByte regionReset regionWrite writeMask clearMask readRegister writeByte writeDword writeRegister readBack sizePart windowsOf insideIo nodesFrom nodePart view bridgeOf agentOf primaryClaims hostClaims claimsOf claimantsIn owned claimed look turnsType0 treeWith grown countOf spaced
-table = rw (three-faults, two-pass, three-rack, three-images, two-rack, two-images) refl
+table = rw (found .0, found .1, racks .0, both-images .0, racks .1, both-images .1) refl

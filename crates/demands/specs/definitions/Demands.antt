@@ -11,7 +11,7 @@ use Rattle.rack.specs.definitions.Tree.{Tree, depth, greatestDepth}
 use Rattle.rack.specs.definitions.Grow.{tree}
 use Rattle.rack.specs.definitions.Refusal.{rackRefusal, FirstFaultyNode}
 use Rattle.register_header.specs.definitions.Register.{readRegister}
-use Rattle.register_image.specs.definitions.Image.{Images, Result, view, writeNode}
+use Rattle.register_image.specs.definitions.Image.{Images, Result, view, writeNode, gives}
 use Rattle.register_image.specs.definitions.Fixed.{imageRefusal, lengthsWrong}
 use Rattle.register_image.specs.definitions.Reset.{resetImages}
 use Rattle.claim_agent.specs.declared.Space.{Space}
@@ -105,7 +105,7 @@ module _ (rack : Rack) (im : Images) where
   pub record Run (e : Event) : Type 0 where
     pub refused : (refusalBy (tree rack) im (call.eventRefusal (tree rack) e) ≡ 0 → ⊥)
         → runIn (tree rack) im e
-        ≡ record { answer = reply.Refused (refusalBy (tree rack) im (call.eventRefusal (tree rack) e)); after = im }
+        ≡ gives (reply.Refused (refusalBy (tree rack) im (call.eventRefusal (tree rack) e))) im
     pub answers : refusalBy (tree rack) im (call.eventRefusal (tree rack) e) ≡ 0
         → runIn (tree rack) im e ≡ ran (eventRun (tree rack) im e)
 
@@ -135,7 +135,7 @@ pub record Demand1 : Type 0 where
       → InOrder b (eventBytes event) im (call.eventRefusal (rackAlone b .tree) (eventIn event 0))
       (repliedCall (ran (eventRun (rackAlone b .tree) im (eventIn event 0)))) (rackRun b event im)
   pub c-checks : (b : List ℕ) (im : Images)
-      → InOrder b 0 im 0 (repliedCall (record { answer = reply.Answered (Checked (check (rackAlone b .tree) im)); after = im }))
+      → InOrder b 0 im 0 (repliedCall (gives (reply.Answered (Checked (check (rackAlone b .tree) im))) im))
       (rackCheck b im)
   pub c-windows : (b : List ℕ) (im : Images) (i k : ℕ)
       → InOrder b 0 im (call.windowRefusal (rackAlone b .tree) i k)

@@ -4,7 +4,7 @@ use mathlib.Core.Bool.{Bool, true, false, cond}
 use lib.Dec.{eqb}
 use Rattle.rack.specs.definitions.Tree.{Tree}
 use Rattle.register_header.specs.definitions.Register.{readRegister}
-use Rattle.register_image.specs.definitions.Image.{Images, Result, view, writeNode}
+use Rattle.register_image.specs.definitions.Image.{Images, Result, view, writeNode, gives}
 use Rattle.claim_agent.specs.declared.Space.{Space}
 use Rattle.claim_agent.specs.declared.Space.the-variants as space
 use Rattle.route_bus.specs.declared.Access.{Access}
@@ -32,7 +32,7 @@ addressed s direction address =
 
 -- an access that ended, with the images that it leaves
 abbrev pub answers : ℕ → Ending → Images → Result Answer
-answers crossings e im = record { answer = Ended crossings e; after = im }
+answers crossings e im = gives (Ended crossings e) im
 
 -- the register that the access names, of node g, is read or written
 unfoldable pub registerOf : Tree → Images → Access → ℕ → ℕ → Result Answer
@@ -65,4 +65,4 @@ eventRun t im (Write bus devfn register enables put) = configured t im (configur
 eventRun t im (Read bus devfn register) = configured t im (configuration false bus devfn register 0 0)
 eventRun t im (Memory initiator direction address) = accessed t im (addressed space.Memory direction address) initiator
 eventRun t im (Io initiator direction address) = accessed t im (addressed space.Io direction address) initiator
-eventRun t im Check = record { answer = Checked (check t im); after = im }
+eventRun t im Check = gives (Checked (check t im)) im

@@ -2,7 +2,7 @@
 use Prim.Native.Nat.{ℕ}
 use mathlib.Core.List.{List}
 use Rattle.rack.specs.definitions.First.{_when_, _or_, unless}
-use Rattle.register_image.specs.definitions.Image.{Images, images, Result}
+use Rattle.register_image.specs.definitions.Image.{Images, images, Result, gives}
 use Rattle.register_image.specs.definitions.Fixed.{lengthsWrong}
 use Rattle.register_image.specs.definitions.Reset.{resetImages}
 use Rattle.file_record.specs.definitions.Events.{eventIn, eventBytes}
@@ -41,8 +41,7 @@ rackRun b event im =
 -- rack_check: 'A check changes no register'
 unfoldable pub rackCheck : List ℕ → Images → Called
 rackCheck b im =
-    unless (rackAlone b .refusal) (repliedCall (record { answer = checkIn (rackAlone b .tree) im; after = im }))
-    (λ n. refusedCall n im)
+    unless (rackAlone b .refusal) (repliedCall (gives (checkIn (rackAlone b .tree) im) im)) (λ n. refusedCall n im)
 
 -- rack_window: window k of a bridge (0 memory, 1 prefetchable, 2 I/O), or region k of a device
 unfoldable pub rackWindow : List ℕ → Images → ℕ → ℕ → Called

@@ -21,7 +21,8 @@ nodesWith t n i = cond (eqb i (t .count)) (spelt n) (t .node i)
 abbrev pub newDepth : Tree → ℕ → ℕ
 newDepth t parent = cond (ltb parent (t .count)) (t .depthOf parent + 1) 1
 
--- 01: 'Nodes (kinds 2 and 3) are numbered from 0 in file order': the tree with one node more; all else that is stored stays
+-- 01: 'Nodes (kinds 2 and 3) are numbered from 0 in file order', 'Bridges' registers form one image and devices' another, in node order':
+-- the tree with one node more, whose place is after those of its kind; all else that is stored stays
 unfoldable pub grown : Tree → Node → Tree
 grown t n =
     record {

@@ -32,10 +32,6 @@ bridgesBelow node n = countOf (λ i. isBridge (node i .kind)) n
 abbrev pub devicesBelow : (ℕ → Node) → ℕ → ℕ
 devicesBelow node n = countOf (λ i. not (isBridge (node i .kind))) n
 
--- 01: 'Bridges' registers form one image and devices' another, in node order': a node's place in its image
-unfoldable pub placeOf : (ℕ → Node) → ℕ → ℕ
-placeOf node i = cond (isBridge (node i .kind)) (bridgesBelow node i) (devicesBelow node i)
-
 abbrev pub bridgeCount : Tree → ℕ
 bridgeCount t = bridgesBelow (t .node) (t .count)
 

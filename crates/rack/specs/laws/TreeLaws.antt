@@ -1,4 +1,4 @@
--- Laws of how many bridges and devices there are, and of places.
+-- Laws of how many bridges and devices there are.
 use mathlib.Core.Path.{_≡_, ap, fun-ext}
 use mathlib.Core.Bool.{not}
 use Prim.Native.Nat.{ℕ, _-_, _≤_, _<_}
@@ -7,7 +7,7 @@ use Rattle.rack.specs.declared.Range.{Range}
 use Rattle.rack.specs.declared.Node.{Node}
 use Rattle.rack.specs.definitions.Node.{isBridge}
 use Rattle.rack.specs.laws.CountLaws.{count-both, count-le, count-same}
-use Rattle.rack.specs.definitions.Tree.{Tree, bridgesBelow, devicesBelow, placeOf}
+use Rattle.rack.specs.definitions.Tree.{Tree, bridgesBelow, devicesBelow}
 
 -- trees are the same whose parts are
 pub tree-same : {c d g e : ℕ} {h i : Range} {node mode : ℕ → Node} {place plot depth drop : ℕ → ℕ} → c ≡ d → h ≡ i
@@ -35,9 +35,3 @@ bridges-same f g n s =
 pub devices-same : (f g : ℕ → Node) (n : ℕ) → ((i : ℕ) → i < n → f i ≡ g i) → devicesBelow f n ≡ devicesBelow g n
 devices-same f g n s =
     count-same (λ i. not (isBridge (f i .kind))) (λ i. not (isBridge (g i .kind))) n (λ i h. ap (λ (m : Node). not (isBridge (m .kind))) (s i h))
-
--- nodes that are the same to i: the place of i
-pub place-same : (f g : ℕ → Node) (i : ℕ) → ((j : ℕ) → j ≤ i → f j ≡ g j) → placeOf f i ≡ placeOf g i
-unfolding placeOf
-place-same f g i s =
-    rw (s i (omega arith), bridges-same f g i (λ j h. s j (omega arith)), devices-same f g i (λ j h. s j (omega arith)))

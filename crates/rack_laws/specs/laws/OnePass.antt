@@ -11,10 +11,14 @@ use Rattle.rack.specs.declared.Range.{Range}
 use Rattle.rack.specs.declared.Node.{Node}
 use Rattle.rack.specs.definitions.Node.{isBridge, spelt}
 use Rattle.rack.specs.laws.Bools.{tested}
-use Rattle.rack.specs.definitions.Tree.{Tree, placeOf, imageCount}
-use Rattle.rack.specs.laws.TreeLaws.{tree-same, place-same}
+use Rattle.rack.specs.definitions.Tree.{Tree, bridgesBelow, devicesBelow, imageCount}
+use Rattle.rack.specs.laws.TreeLaws.{tree-same, bridges-same, devices-same}
 use Rattle.rack.specs.definitions.Grow.{noTree, nodesWith, newDepth, grown, treeWith}
 use Rattle.rack.specs.laws.GrowLaws.{with-new, with-earlier, with-bridges, with-devices}
+
+-- a node's place in its image
+unfoldable pub placeOf : (ℕ → Node) → ℕ → ℕ
+placeOf node i = cond (isBridge (node i .kind)) (bridgesBelow node i) (devicesBelow node i)
 
 -- the depths of the first n nodes' buses: what is no earlier node has depth 0 as the root bus has
 unfoldable pub busDepth : (ℕ → Node) → ℕ → ℕ → ℕ
@@ -37,6 +41,12 @@ onePass h node n =
       depthOf = busDepth node n;
       deepest = deepestOf node n;
     }
+
+-- nodes that are the same to i: the place of i
+pub place-same : (f g : ℕ → Node) (i : ℕ) → ((j : ℕ) → j ≤ i → f j ≡ g j) → placeOf f i ≡ placeOf g i
+unfolding placeOf
+place-same f g i s =
+    rw (s i (omega arith), bridges-same f g i (λ j h. s j (omega arith)), devices-same f g i (λ j h. s j (omega arith)))
 
 -- a bus that is none of the first n nodes' has depth 0
 pub depth-none : (node : ℕ → Node) (n bus : ℕ) → n ≤ bus → busDepth node n bus ≡ 0

@@ -9,7 +9,8 @@ use Rattle.rack.specs.declared.Node.{Node}
 use Rattle.rack.specs.definitions.Node.{isBridge}
 use Rattle.rack.specs.definitions.Count.{countOf}
 use Rattle.rack.specs.laws.Bools.{tested}
-use Rattle.rack.specs.definitions.Tree.{Tree, placeOf, imageCount}
+use Rattle.rack.specs.definitions.Tree.{Tree, imageCount}
+use Rattle.rack_laws.specs.laws.OnePass.{placeOf}
 use Rattle.rack_laws.specs.laws.Counts.{count-lt}
 
 -- whether a node stands in the image of the bridges, or of the devices

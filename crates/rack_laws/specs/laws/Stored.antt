@@ -4,12 +4,12 @@ use Prim.Native.Nat.{ℕ, _<_, min}
 use native.Mathlib.Omega.{arith}
 use borrow.Author.Tests.{lt-ltb}
 use Rattle.rack.specs.declared.Rack.{Rack}
-use Rattle.rack.specs.definitions.Tree.{Tree, placeOf}
+use Rattle.rack.specs.definitions.Tree.{Tree}
 use Rattle.rack.specs.definitions.Grow.{counting, tree}
 use Rattle.rack.specs.laws.GrowLaws.{with-count}
 use Rattle.rack.specs.definitions.Stored.{Stored}
 use Rattle.rack.specs.definitions.Refusal.{rackRefusal}
-use Rattle.rack_laws.specs.laws.OnePass.{busDepth, StoredBy, with-stored}
+use Rattle.rack_laws.specs.laws.OnePass.{placeOf, busDepth, StoredBy, with-stored}
 use Rattle.rack_laws.specs.laws.Sound.{nodes-le}
 use Rattle.rack_laws.specs.laws.Places.{below, apart}
 use Rattle.rack_laws.specs.laws.Depths.{depth-found, greatest-found}

@@ -24,8 +24,11 @@ pub record Result (A : Type 0) : Type 0 where
   pub answer : A
   pub after : Images
 
+abbrev pub gives : {A : Type 0} → A → Images → Result A
+gives a im = record { answer = a; after = im }
+
 abbrev pub result : {A : Type 0} → A → List ℕ → List ℕ → Result A
-result a b d = record { answer = a; after = images b d }
+result a b d = gives a (images b d)
 
 -- the image that holds nodes of a kind, and both with that one replaced
 abbrev pub imageOf : Images → Kind → List ℕ

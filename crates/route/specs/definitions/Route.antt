@@ -7,7 +7,7 @@ use Rattle.rack.specs.definitions.Tree.{Tree, host, parentOf}
 use Rattle.register_header.specs.declared.Side.the-variants.{Primary}
 use Rattle.register_header.specs.declared.StatusBit.the-variants.{ReceivedTargetAbort}
 use Rattle.register_header.specs.definitions.PciRegs.{COMMAND, COMMAND-MASTER}
-use Rattle.register_image.specs.definitions.Image.{Images, Result, view, statusNode}
+use Rattle.register_image.specs.definitions.Image.{Images, Result, view, statusNode, gives}
 use Rattle.register_header.specs.definitions.Register.{bitAt}
 use Rattle.route_bus.specs.declared.Access.{Access}
 use Rattle.route_bus.specs.declared.Outcome.{Outcome}
@@ -64,7 +64,7 @@ unfoldable pub returned : Tree → Images → ℕ → End → Images
 returned t im i e = ifUnclaimed (λ holder o. received t im i o) im e
 
 abbrev pub started : Tree → ℕ → Result Route → Result Route
-started t i o = record { answer = o .answer; after = returned t (o .after) i (o .answer .end) }
+started t i o = gives (o .answer) (returned t (o .after) i (o .answer .end))
 
 -- a memory or I/O access starts on the bus its initiator sits on
 abbrev pub driven : Tree → Images → Access → ℕ → Result Route

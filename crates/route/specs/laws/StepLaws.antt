@@ -5,7 +5,7 @@ use Prim.Native.Nat.{ℕ, zero, suc, _+_, _-_, _≤_}
 use native.Mathlib.Nat.{le-refl}
 use native.Mathlib.Omega.{arith}
 use Rattle.rack.specs.definitions.Tree.{Tree}
-use Rattle.register_image.specs.definitions.Image.{Images, Result}
+use Rattle.register_image.specs.definitions.Image.{Images, Result, gives}
 use Rattle.route_bus.specs.declared.Access.{Access}
 use Rattle.route_bus.specs.declared.End.{End}
 use Rattle.route_bus.specs.declared.End.the-variants.{Silent}
@@ -19,18 +19,18 @@ use Rattle.route.specs.definitions.Route.{follow, busStep, bridgeStep}
 
 module _ (t : Tree) (im : Images) (x : Access) (bus driver : ℕ) (type0 : Bool) where
   -- an end that is seen on the bus is the bus's
-  pub bus-ends : (n : ℕ) {e : End} {v : Images} → look t im x bus driver type0 ≡ record { answer = Ends e; after = v }
+  pub bus-ends : (n : ℕ) {e : End} {v : Images} → look t im x bus driver type0 ≡ gives (Ends e) v
       → busStep (suc n) t im x bus driver type0 ≡ ends e v
   unfolding busStep
   bus-ends n s = rw s
 
   -- the same, for a number of crossings that are left
-  pub bus-ends-left : (left : ℕ) {e : End} {v : Images} → look t im x bus driver type0 ≡ record { answer = Ends e; after = v }
+  pub bus-ends-left : (left : ℕ) {e : End} {v : Images} → look t im x bus driver type0 ≡ gives (Ends e) v
       → busStep (left + left + 1) t im x bus driver type0 ≡ ends e v
   bus-ends-left left s = let p : left + left + 1 ≡ suc (left + left) = omega arith in rw p (bus-ends (left + left) s)
 
   -- a bridge that takes the access across is followed while crossings are left
-  pub bus-on : (left : ℕ) {g : ℕ} {v : Images} → look t im x bus driver type0 ≡ record { answer = Crosses g; after = v }
+  pub bus-on : (left : ℕ) {g : ℕ} {v : Images} → look t im x bus driver type0 ≡ gives (Crosses g) v
       → (left ≡ 0 → ⊥)
       → busStep (left + left + 1) t im x bus driver type0 ≡ bridgeStep ((left - 1) + (left - 1) + 2) t v x bus g
   unfolding busStep
@@ -39,7 +39,7 @@ module _ (t : Tree) (im : Images) (x : Access) (bus driver : ℕ) (type0 : Bool)
       rw (p, s)
 
   -- where none are left there is no route
-  pub bus-spent : (left : ℕ) {g : ℕ} {v : Images} → look t im x bus driver type0 ≡ record { answer = Crosses g; after = v }
+  pub bus-spent : (left : ℕ) {g : ℕ} {v : Images} → look t im x bus driver type0 ≡ gives (Crosses g) v
       → left ≡ 0 → busStep (left + left + 1) t im x bus driver type0 ≡ ends Silent v
   unfolding busStep
   bus-spent left s z = rw (z, s)

@@ -8,7 +8,7 @@ use Rattle.register_header.specs.declared.Side.{Side}
 use Rattle.register_header.specs.declared.Side.the-variants.{Primary, Secondary}
 use Rattle.register_header.specs.declared.StatusBit.the-variants.{SignaledTargetAbort, ReceivedTargetAbort}
 use Rattle.register_header.specs.definitions.PciRegs.{SECONDARY-BUS, BRIDGE-CONTROL, BRIDGE-CTL-MASTER-ABORT}
-use Rattle.register_image.specs.definitions.Image.{Images, Result, view, statusNode}
+use Rattle.register_image.specs.definitions.Image.{Images, Result, view, statusNode, gives}
 use Rattle.register_header.specs.definitions.Register.{bitAt}
 use Rattle.claim_agent.specs.declared.Space.{Space}
 use Rattle.claim_agent.specs.declared.Space.the-variants.{Memory, Io, Configuration}
@@ -65,11 +65,9 @@ lastImages t im bus g Target = signalled t im bus g
 
 -- 01: 'each earlier bridge bit 12 towards the later and bit 11 towards the initiator'
 unfoldable pub passed : Tree → Images → Access → ℕ → ℕ → Outcome → Result Outcome
-passed t im x bus g Abort =
-    record { answer = lastOutcome t im x g; after = lastImages t im bus g (lastOutcome t im x g) }
-passed t im x bus g Done = record { answer = Done; after = im }
-passed t im x bus g Target =
-    record { answer = Target; after = signalled t (statusNode t im g (towardsLater bus g) ReceivedTargetAbort) bus g }
+passed t im x bus g Abort = gives (lastOutcome t im x g) (lastImages t im bus g (lastOutcome t im x g))
+passed t im x bus g Done = gives Done im
+passed t im x bus g Target = gives Target (signalled t (statusNode t im g (towardsLater bus g) ReceivedTargetAbort) bus g)
 
 -- the end of a route on its way back through bridge g, and the images that this leaves
 abbrev pub passedEnd : Tree → Images → Access → ℕ → ℕ → End → End
@@ -81,7 +79,4 @@ passedImages t im x bus g e = ifUnclaimed (λ holder o. passed t im x bus g o .a
 -- one crossing more
 unfoldable pub crossed : Tree → Images → Access → ℕ → ℕ → Route → Result Route
 crossed t im x bus g r =
-    record {
-      answer = record { crossings = r .crossings + 1; end = passedEnd t im x bus g (r .end) };
-      after = passedImages t im x bus g (r .end);
-    }
+    gives (record { crossings = r .crossings + 1; end = passedEnd t im x bus g (r .end) }) (passedImages t im x bus g (r .end))

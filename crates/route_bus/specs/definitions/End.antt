@@ -1,6 +1,6 @@
 -- Where a route ends, what one bridge or initiator on the way back asks of it, and 01's number for each outcome.
 use Prim.Native.Nat.{ℕ}
-use Rattle.register_image.specs.definitions.Image.{Images, Result}
+use Rattle.register_image.specs.definitions.Image.{Images, Result, gives}
 use Rattle.route_bus.specs.declared.Outcome.{Outcome}
 use Rattle.route_bus.specs.declared.Outcome.the-variants.{Abort, Done, Target}
 use Rattle.route_bus.specs.declared.End.{End}
@@ -18,7 +18,7 @@ ifUnclaimed f other Silent = other
 
 -- an end that was reached without a crossing
 abbrev pub ends : End → Images → Result Route
-ends e im = record { answer = record { crossings = 0; end = e }; after = im }
+ends e im = gives (record { crossings = 0; end = e }) im
 
 -- 01: '`abort` (no crossing), `done` or `target`'
 abbrev pub outcomeNumber : Outcome → ℕ

@@ -7,7 +7,7 @@ use Rattle.rack.specs.definitions.Tree.{Tree, host, parentOf}
 use Rattle.register_header.specs.declared.Side.{Side}
 use Rattle.register_header.specs.declared.Side.the-variants.{Primary, Secondary}
 use Rattle.register_header.specs.declared.StatusBit.the-variants.{ReceivedMasterAbort}
-use Rattle.register_image.specs.definitions.Image.{Images, Result, view, statusNode}
+use Rattle.register_image.specs.definitions.Image.{Images, Result, view, statusNode, gives}
 use Rattle.claim_agent.specs.declared.Space.{Space}
 use Rattle.claim_agent.specs.declared.Space.the-variants.{Memory, Io, Configuration}
 use Rattle.claim_agent.specs.declared.Claimants.{Claimants}
@@ -36,7 +36,7 @@ masterAbort t im bus driver =
     cond (eqb driver host) im (statusNode t im driver (sideOn bus driver) ReceivedMasterAbort)
 
 unfoldable pub unclaimed : Tree → Images → ℕ → ℕ → Result Sight
-unclaimed t im bus driver = record { answer = Ends (Unclaimed bus Abort); after = masterAbort t im bus driver }
+unclaimed t im bus driver = gives (Ends (Unclaimed bus Abort)) (masterAbort t im bus driver)
 
 -- 01: 'one claimant owns it or, if a bridge, takes it across'; the offset from the region's or the host's first address
 unfoldable pub owned : Tree → Images → Access → ℕ → Sight
@@ -50,8 +50,8 @@ owned t im x g =
 -- 01: 'With no claimant the access is unclaimed, with two or more it clashes'. A clash sets nothing
 unfoldable pub claimed : Tree → Images → Access → ℕ → ℕ → Claimants → Result Sight
 claimed t im x bus driver Nobody = unclaimed t im bus driver
-claimed t im x bus driver (One g) = record { answer = owned t im x g; after = im }
-claimed t im x bus driver (Two y z) = record { answer = Ends (Clash bus y z); after = im }
+claimed t im x bus driver (One g) = gives (owned t im x g) im
+claimed t im x bus driver (Two y z) = gives (Ends (Clash bus y z)) im
 
 -- 01: 'Type 0 reaches the node of that device number, function 0'; 255 where there is none
 unfoldable pub target : Tree → ℕ → ℕ → ℕ
@@ -64,7 +64,7 @@ target t bus devfn =
 unfoldable pub direct : Tree → Images → Access → ℕ → ℕ → Result Sight
 direct t im x bus driver =
     cond (eqb (target t bus (x .devfn)) 255) (unclaimed t im bus driver)
-    (record { answer = Ends (Node (target t bus (x .devfn))); after = im })
+    (gives (Ends (Node (target t bus (x .devfn)))) im)
 
 -- a bus, for an access that is Type 0 configuration there or is claimed
 unfoldable pub look : Tree → Images → Access → ℕ → ℕ → Bool → Result Sight
