@@ -218,7 +218,7 @@ class Firmware:
 def interesting(rng, rack, firmware):
     """An address near the end of something, with its space."""
     points = [rack.first, rack.last, 0, 0xA0000, 0xBFFFF, 0xFFFFFFFF, (1 << 64) - 1]
-    ports = [0, 0x100, 0x3B0, 0x3BB, 0x3C0, 0x3DF, 0x7B0, 0x13B0, 0xFFFF, 0x10000, 0x103B0, 0xFFFFFFFF]
+    ports = [0, 0x100, 0x3B0, 0x3BB, 0x3C0, 0x3DF, 0x7B0, 0x13B0, 0xFC00, 0xFFC0, 0xFFFF, 0x10000, 0x103B0, 0x12100, 0xFFFFFFFF]
     for i, bases in firmware.bases.items():
         for (kind, exponent), base in zip(rack.nodes[i].regions, bases):
             if kind:

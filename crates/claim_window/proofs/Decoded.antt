@@ -1,11 +1,11 @@
--- Windows and areas from the registers that the code has read, and the end that it has cut.
+-- Windows and areas from the registers that the code has read.
 use mathlib.Core.Path.{_≡_}
 use mathlib.Core.Bool.{Bool, false, _||_}
 use mathlib.Core.List.{List}
 use mathlib.Core.Logic.{_≢_}
-use Prim.Native.Nat.{ℕ, _+_, _-_, _*_, _/_, _%_, _^_, _<_}
+use Prim.Native.Nat.{ℕ, _+_, _*_, _/_, _%_, _^_, _<_}
 use native.Mathlib.Omega.{arith}
-use borrow.Author.Tests.{leb-false, eq-eqb, ne-eqb, lt-ltb, lt-leb}
+use borrow.Author.Tests.{leb-false, eq-eqb, ne-eqb, lt-ltb}
 use lib.Dec.{eqb, ltb}
 use lib.ListN.{getD}
 use Rattle.rack.specs.declared.Range.{Range}
@@ -16,7 +16,6 @@ use Rattle.register_header.specs.definitions.Sizing.{regionRegister}
 use Rattle.claim_window.specs.definitions.Range.{window}
 use Rattle.claim_window.specs.definitions.Window.{wordAt, memoryOf, prefetchableOf, ioOf, windowsOf}
 use Rattle.claim_window.specs.definitions.Area.{regionValue, areaOf}
-use Rattle.claim_window.specs.definitions.Cut.{cutIf, cutLow}
 
 module _ (part : List ℕ) where
   pub memory-is : {b l : ℕ} {w : Range} → b ≡ wordAt part regs.MEMORY-BASE → l ≡ wordAt part regs.MEMORY-LIMIT
@@ -61,10 +60,3 @@ module _ (part : List ℕ) where
 -- what has an area has at most 2 to the 31 addresses
 pub exponent-below : (kind e : ℕ) → (eqb kind 0 || ltb 31 e) ≡ false → e < 32
 exponent-below kind e q = leb-false 32 e (neither (eqb kind 0) (ltb 31 e) q .1)
-
-pub low-is : (isa vga : Bool) (a e : ℕ) {v w x y z r : ℕ} → a < 0x10000 → v ≡ cutIf isa (a - a % 1024 + 0x100) a e
-    → w ≡ cutIf vga (a - a % 1024 + 0x3B0) a v → x ≡ cutIf vga (a - a % 1024 + 0x3BC) a w
-    → y ≡ cutIf vga (a - a % 1024 + 0x3C0) a x → z ≡ cutIf vga (a - a % 1024 + 0x3E0) a y
-    → r ≡ cutIf (isa || vga) (a - a % 1024 + 0x400) a z → r ≡ cutLow isa vga a e
-unfolding cutLow
-low-is isa vga a e h ev ew ex ey ez er = rw (lt-leb 0x10000 a h, er, ez, ey, ex, ew, ev)

@@ -1,3 +1,4 @@
 -- What the functions' proofs use.
 mod Granule
+mod Low
 mod Decoded

@@ -1,6 +1,6 @@
 // How far upwards a test on an address keeps its answer: each function brings an end e down.
 ghost use mathlib.Core.Path.{_≡_};
-ghost use Prim.Native.Nat.{_+_, _<_};
+ghost use Prim.Native.Nat.{_+_, _%_, _<_};
 ghost use Rattle.claim_window.specs.definitions.Range.{within};
 ghost use Rattle.claim_window.specs.definitions.Cut.{cutAt, cutPast, cutRange, cutIf, cutLow};
 use rack::Range;
@@ -48,14 +48,23 @@ fn cut_if(on: bool, at: u64, a: u64, e: u64) -> u64
     if on { cut_at(at, a, e) } else { e }
 }
 
-// Of the ISA and the VGA rule.
+// The low part of an address: ISA and VGA use no more than 16 bits.
+pub(crate) fn low_part(a: u64) -> u16
+    ensures { λ r. ⌜ r ≡ a % 0x10000 ⌝ }
+{
+    (a % 0x10000) as u16
+}
+
+// Of the ISA and the VGA rule. Where a block of 1 KiB starts is widened: the last one ends at 10000h, which 16 bits do not hold.
 pub fn cut_low(isa: bool, vga: bool, a: u64, e: u64) -> u64
     ensures { λ r. ⌜ r ≡ cutLow isa vga a e ⌝ }
 {
     if 0x10000 <= a {
         return e;
     }
-    let b = a - a % 1024;
+    let low = low_part(a);
+    let start = low - low % 1024;
+    let b = start as u64;
     let e1 = cut_if(isa, b + 0x100, a, e);
     let e2 = cut_if(vga, b + 0x3B0, a, e1);
     let e3 = cut_if(vga, b + 0x3BC, a, e2);

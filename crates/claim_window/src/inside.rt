@@ -4,6 +4,7 @@ ghost use Rattle.claim_window.specs.definitions.Inside.{inMemory, inPref
 use crate::Windows;
 use crate::cut::cut_low;
 use crate::cut::cut_range;
+use crate::cut::low_part;
 use crate::cut::within_range;
 use rack::Range;
 
@@ -26,7 +27,8 @@ impl Windows {
     fn isa_cut(self, a: u64) -> bool
         ensures { λ r. ⌜ r ≡ isaCut self a ⌝ }
     {
-        self.isa & ((a < 0x10000) & !(a / 256 % 4 == 0))
+        let low = low_part(a);
+        self.isa & ((a < 0x10000) & !(low / 256 % 4 == 0))
     }
 
     pub fn in_io(self, a: u64) -> bool
@@ -45,11 +47,12 @@ impl Windows {
     pub fn in_vga_io(self, a: u64) -> bool
         ensures { λ r. ⌜ r ≡ inVgaIo self a ⌝ }
     {
-        let low = a % 1024;
+        let low = low_part(a);
+        let port = low % 1024;
         self.vga
             & ((a < 0x10000)
-                & ((((0x3B0 <= low) & (low <= 0x3BB)) | ((0x3C0 <= low) & (low <= 0x3DF)))
-                    & (!self.vga16 | (a / 1024 % 64 == 0))))
+                & ((((0x3B0 <= port) & (port <= 0x3BB)) | ((0x3C0 <= port) & (port <= 0x3DF)))
+                    & (!self.vga16 | (low / 1024 == 0))))
     }
 
     pub fn inside_memory(self, a: u64) -> bool

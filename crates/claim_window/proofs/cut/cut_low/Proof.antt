@@ -1,6 +1,6 @@
 use borrow.Author.Tests.{le-leb}
 use borrow.Author.Needs.{needs}
-use Rattle.claim_window.proofs.Decoded.{low-is}
+use Rattle.claim_window.proofs.Low.{low-is}
 use Rattle.claim_window.specs.definitions.Cut.{cutLow}
 use Rattle.claim_window.proofs.cut.cut_low.Statement.{statement}
 use Rattle.claim_window.proofs.cut.cut_low.Tie as tie
@@ -9,8 +9,14 @@ returns : tie.Need-returns
 unfolding cutLow
 returns c = simp (le-leb _ _ (c .if1 .taken))
 
-sub-b : tie.Need-sub-b
-sub-b c = search needs
+low-part-requires : tie.Need-low-part-requires
+low-part-requires c κs = search needs
+
+sub-start : tie.Need-sub-start
+sub-start c = search needs
+
+cast-b : tie.Need-cast-b
+cast-b c = search needs
 
 add-cut-if : tie.Need-add-cut-if
 add-cut-if c = search needs
@@ -56,7 +62,9 @@ cut-low-spec =
     tie.close
     (tie.spec
     returns
-    sub-b
+    low-part-requires
+    sub-start
+    cast-b
     add-cut-if
     cut-if-requires
     add-cut-if-2
