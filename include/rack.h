@@ -1,7 +1,7 @@
 /* The calls of libmuzgante.a, for C.
  *
- * A rack is the bytes of its records: a host, then bridges and devices, as a rack file has them before its first event (README.md). Its
- * registers are two images of 64 bytes a node: the bridges' and the devices', each in node order.
+ * A rack is the bytes of its records: a host, then bridges (of two kinds) and devices, as a rack file has them before its first event
+ * (README.md). Its registers are two images of 64 bytes a node: the bridges' and the devices', each in node order.
  *
  * Every call returns 0 or the number of a refusal. A refused call leaves both images as they were and `answer` all 0. Nothing is asked
  * of the caller but that each pointer is good for its count of bytes (any pointer that is not null where the count is 0), that `answer`
@@ -46,7 +46,8 @@ enum {
     RACK_KIND_CONFIGURATION_READ = 5,
     RACK_KIND_MEMORY = 6,
     RACK_KIND_IO = 7,
-    RACK_KIND_CHECK = 8
+    RACK_KIND_CHECK = 8,
+    RACK_KIND_OLDER_BRIDGE = 13 /* a rack record: a bridge without 32-bit I/O, 64-bit prefetchable memory and VGA 16-bit decode */
 };
 
 /* The bytes of each kind's body. */
@@ -58,17 +59,18 @@ enum {
     RACK_BODY_CONFIGURATION_READ = 3,  /* bus, device times 8 plus function, register */
     RACK_BODY_MEMORY = 10,             /* initiator, 0 read or 1 write, address (8) */
     RACK_BODY_IO = 6,                  /* initiator, 0 read or 1 write, address (4) */
-    RACK_BODY_CHECK = 0
+    RACK_BODY_CHECK = 0,
+    RACK_BODY_OLDER_BRIDGE = 6 /* as a bridge's */
 };
 
 /* Refusals, in the order in which they are looked for. */
 enum {
     RACK_REFUSED_TOO_LONG = 1,      /* more than 65,536 bytes of rack */
-    RACK_REFUSED_KIND = 2,          /* a kind that is not 1 to 3 in the rack, or not 4 to 8 in the event, or no event byte */
+    RACK_REFUSED_KIND = 2,          /* a kind that is not 1 to 3 or 13 in the rack, or not 4 to 8 in the event, or no event byte */
     RACK_REFUSED_CUT_SHORT = 3,     /* a record cut short; an event of another length than its own */
     RACK_REFUSED_HOST = 4,          /* no record, a first one that is no host, or a second host */
     RACK_REFUSED_AFTER_EVENT = 5,   /* files alone: a rack record after an event */
-    RACK_REFUSED_TOO_MANY = 6,      /* a 33rd bridge or a 65th device */
+    RACK_REFUSED_TOO_MANY = 6,      /* a 33rd bridge, of both kinds together, or a 65th device */
     RACK_REFUSED_PARENT = 7,        /* a parent that is neither 255 nor an earlier bridge */
     RACK_REFUSED_DEVICE = 8,        /* a device number above 15 */
     RACK_REFUSED_DEVICE_TAKEN = 9,  /* a device number that is taken on its bus */
@@ -102,7 +104,7 @@ enum {
 /* Where the check found a fault. */
 enum { RACK_SPACE_MEMORY = 0, RACK_SPACE_IO = 1, RACK_SPACE_CONFIGURATION = 2 };
 
-/* The windows of a bridge for rack_window. A device's regions have their own numbers, 0 to 2. */
+/* The windows of a bridge of either kind for rack_window. A device's regions have their own numbers, 0 to 2. */
 enum { RACK_WINDOW_MEMORY = 0, RACK_WINDOW_PREFETCHABLE = 1, RACK_WINDOW_IO = 2 };
 
 /* One event (a record of kind 4 to 8) on the rack: how it ends, and both images as it leaves them. */

@@ -1,5 +1,5 @@
 """Random rack files: whole ones of several shapes, and broken ones of every refusal, with several faults at once."""
-from racks import CHECK, HOST, Firmware, Node, configuration, events, memory, random_rack, read, write
+from racks import BRIDGE, BRIDGES, CHECK, DEVICE, HOST, OLDER_BRIDGE, OPTIONS, Firmware, Node, configuration, events, memory, random_rack, read, write
 
 MOST = 65536
 
@@ -42,13 +42,24 @@ def wild(rng):
     return rack.records(), out + events(rng, rack, firmware, 20, 2)
 
 
+def options(rng):
+    """Every register that an option of a bridge changes, written with all ones and read back in each bridge, then put right."""
+    rack = random_rack(rng, rng.randint(1, 6), rng.randint(0, 4), "any")
+    firmware = Firmware(rack)
+    out = firmware.writes(rng, 0)
+    for i in rack.bridges():
+        for register in rng.sample(OPTIONS, rng.randint(1, len(OPTIONS))):
+            out += [write(*firmware.target(i), register, 15, 0xFFFFFFFF), read(*firmware.target(i), register)]
+    return rack.records(), out + events(rng, rack, firmware, 20, 1) + firmware.writes(rng, 0) + events(rng, rack, firmware, 20, 1)
+
+
 def bare(rng):
     return configured(rng, rng.randint(0, 1), rng.randint(0, 2), "any", rng.randint(0, 3), rng.randint(0, 1), 0)
 
 
 def too_many(rng):
-    kind = rng.choice((2, 3))
-    rack = random_rack(rng, 32 if kind == 2 else rng.randint(5, 30), 64 if kind == 3 else rng.randint(0, 40), "any")
+    kind = rng.choice((BRIDGE, OLDER_BRIDGE, DEVICE))
+    rack = random_rack(rng, 32 if kind in BRIDGES else rng.randint(5, 30), 64 if kind == DEVICE else rng.randint(0, 40), "any")
     holder = rng.choice([HOST] + rack.bridges())
     rack.nodes.append(Node(kind, holder, rng.choice((rack.free_number(rng, holder) or 0, 16))))
     return rack.records(), [CHECK]
@@ -58,14 +69,14 @@ def fault(rng, rack, later):
     """One faulty record (or none) for the rack's records or the events."""
     n = lambda: rng.randint(0, 255)
     return rng.choice((
-        lambda: (rack, bytes([rng.choice((0, 9, 10, 255))])),
+        lambda: (rack, bytes([rng.choice((0, 9, 10, 11, 12, 14, 255))])),
         lambda: (rack, b"\x01" + bytes(16)),
-        lambda: (rack, Node(2, rng.choice((HOST, n(), len(rack))), n() % 20).record()),
-        lambda: (rack, Node(3, rng.choice((HOST, n())), n() % 20, [(n() % 5, n() % 40)]).record()),
-        lambda: (rack, Node(3, HOST, n() % 16, [(1, rng.choice((1, 2, 8, 9)))]).record()),
-        lambda: (later, Node(rng.choice((2, 3)), HOST, n() % 18).record()),
+        lambda: (rack, Node(rng.choice(BRIDGES), rng.choice((HOST, n(), len(rack))), n() % 20).record()),
+        lambda: (rack, Node(DEVICE, rng.choice((HOST, n())), n() % 20, [(n() % 5, n() % 40)]).record()),
+        lambda: (rack, Node(DEVICE, HOST, n() % 16, [(1, rng.choice((1, 2, 8, 9)))]).record()),
+        lambda: (later, Node(rng.choice((*BRIDGES, DEVICE)), HOST, n() % 18).record()),
         lambda: (later, b"\x01" + bytes(16)),
-        lambda: (later, bytes([rng.choice((0, 9, 255))])),
+        lambda: (later, bytes([rng.choice((0, 9, 12, 14, 255))])),
         lambda: (later, write(0, n(), n(), n() % 32, 0)),
         lambda: (later, read(0, n(), n())),
         lambda: (later, memory(n(), n() % 4, 0)),
@@ -105,7 +116,7 @@ def long(rng):
     return rack, later + [event] * ((MOST - length) // len(event) + rng.choice((-1, 0, 1)))
 
 
-SHAPES = ((small, 30), (wild, 20), (deep, 8), (full, 3), (wide, 8), (bare, 6), (too_many, 3), (broken, 16), (mangled, 8), (cut, 5), (long, 1))
+SHAPES = ((small, 30), (wild, 20), (deep, 8), (full, 3), (wide, 8), (options, 4), (bare, 6), (too_many, 3), (broken, 16), (mangled, 8), (cut, 5), (long, 1))
 
 
 def random_file(rng):

@@ -29,11 +29,15 @@ static void add(struct rack *r, uint8_t kind, size_t body, uint8_t parent, uint8
     record[1] = parent;
     record[2] = device;
     r->count += 1 + body;
-    r->bridges += kind == RACK_KIND_BRIDGE;
+    r->bridges += kind == RACK_KIND_BRIDGE || kind == RACK_KIND_OLDER_BRIDGE;
     r->devices += kind == RACK_KIND_DEVICE;
 }
 
 static void add_bridge(struct rack *r, uint8_t parent, uint8_t device) { add(r, RACK_KIND_BRIDGE, RACK_BODY_BRIDGE, parent, device); }
+static void add_older_bridge(struct rack *r, uint8_t parent, uint8_t device)
+{
+    add(r, RACK_KIND_OLDER_BRIDGE, RACK_BODY_OLDER_BRIDGE, parent, device);
+}
 static void add_device(struct rack *r, uint8_t parent, uint8_t device) { add(r, RACK_KIND_DEVICE, RACK_BODY_DEVICE, parent, device); }
 
 /* Host memory is the address 0 alone. */
@@ -61,13 +65,15 @@ static struct rack r;
 
 static void rack_bodies(void)
 {
-    static const uint8_t kinds[] = {RACK_KIND_HOST, RACK_KIND_BRIDGE, RACK_KIND_DEVICE};
+    static const uint8_t kinds[] = {RACK_KIND_HOST, RACK_KIND_BRIDGE, RACK_KIND_DEVICE, RACK_KIND_OLDER_BRIDGE};
     for (size_t i = 0; i < sizeof kinds; i++) {
         start(&r);
         if (kinds[i] == RACK_KIND_BRIDGE) {
             add_bridge(&r, RACK_NODE_HOST, 0);
         } else if (kinds[i] == RACK_KIND_DEVICE) {
             add_device(&r, RACK_NODE_HOST, 0);
+        } else if (kinds[i] == RACK_KIND_OLDER_BRIDGE) {
+            add_older_bridge(&r, RACK_NODE_HOST, 0);
         }
         expect(reset(&r) == 0, "a rack of one record of a kind is refused");
         r.count--;
@@ -103,6 +109,26 @@ static void event_bodies(void)
     }
 }
 
+/* An older bridge is a parent, no event and no initiator, and a set bit of an option that it lacks is refused. */
+static void older_bridge(void)
+{
+    uint64_t answer[RACK_ANSWER_NUMBERS];
+    uint8_t event[1 + RACK_BODY_OLDER_BRIDGE] = {RACK_KIND_OLDER_BRIDGE}, memory[1 + RACK_BODY_MEMORY] = {RACK_KIND_MEMORY};
+    start(&r);
+    add_older_bridge(&r, RACK_NODE_HOST, 0);
+    add_device(&r, 0, 0);
+    expect(reset(&r) == 0, "an older bridge is no parent");
+    expect(run(&r, event, sizeof event, answer) == RACK_REFUSED_KIND, "an older bridge is run as an event");
+    expect(run(&r, memory, sizeof memory, answer) == RACK_REFUSED_FIELD, "an older bridge is an initiator");
+    static const uint8_t lacked[][2] = {{0x28, 1}, {0x2F, 0x80}, {0x30, 1}, {0x33, 0x80}, {0x3E, 0x10}, {0x1C, 1}, {0x24, 1}};
+    for (size_t i = 0; i < sizeof lacked / sizeof *lacked; i++) {
+        bridges[lacked[i][0]] = lacked[i][1];
+        expect(rack_check(r.bytes, r.count, bridges, RACK_NODE_BYTES, devices, RACK_NODE_BYTES, answer) == RACK_REFUSED_FIXED_BIT,
+               "a bit that an older bridge lacks is taken");
+        bridges[lacked[i][0]] = 0;
+    }
+}
+
 static void access_of_the_host(void)
 {
     uint64_t answer[RACK_ANSWER_NUMBERS];
@@ -122,7 +148,7 @@ static void limits(void)
 {
     start(&r);
     for (unsigned i = 0; i < RACK_MOST_BRIDGES; i++) {
-        add_bridge(&r, (uint8_t)(i == 0 ? RACK_NODE_HOST : i - 1), 0);
+        (i % 2 == 0 ? add_bridge : add_older_bridge)(&r, (uint8_t)(i == 0 ? RACK_NODE_HOST : i - 1), 0);
     }
     expect(reset(&r) == 0, "the most bridges are refused");
     for (unsigned i = 0; i < RACK_MOST_DEVICES; i++) {
@@ -136,6 +162,9 @@ static void limits(void)
     more = r;
     add_bridge(&more, RACK_MOST_BRIDGES - 1, 15);
     expect(reset(&more) == RACK_REFUSED_TOO_MANY, "a bridge too many is taken");
+    more = r;
+    add_older_bridge(&more, RACK_MOST_BRIDGES - 1, 15);
+    expect(reset(&more) == RACK_REFUSED_TOO_MANY, "an older bridge too many is taken");
     r.count = RACK_MOST_BYTES;
     expect(reset(&r) == RACK_REFUSED_KIND, "the longest rack is too long");
     r.count++;
@@ -151,12 +180,12 @@ static void image_length(void)
 }
 
 /* Reset opens every window of a bridge from 0; the ends stay where they are whatever the bits say that the header names. */
-static void ends_of_windows(void)
+static void ends_of_windows(void (*add_one)(struct rack *r, uint8_t parent, uint8_t device))
 {
     static const uint64_t last[RACK_NODE_WINDOWS] = {
         [RACK_WINDOW_MEMORY] = 0xFFFFF, [RACK_WINDOW_PREFETCHABLE] = 0xFFFFF, [RACK_WINDOW_IO] = 0xFFF};
     start(&r);
-    add_bridge(&r, RACK_NODE_HOST, 0);
+    add_one(&r, RACK_NODE_HOST, 0);
     expect(reset(&r) == 0, "a rack of one bridge is refused");
     for (unsigned bits = 0; bits < 32; bits++) {
         bridges[4] = (uint8_t)(bits & 7);            /* command: I/O, memory, master */
@@ -222,10 +251,12 @@ int main(void)
 {
     rack_bodies();
     event_bodies();
+    older_bridge();
     access_of_the_host();
     limits();
     image_length();
-    ends_of_windows();
+    ends_of_windows(add_bridge);
+    ends_of_windows(add_older_bridge);
     texts();
     threads();
     puts("include/rack.h names the numbers that the calls go by");

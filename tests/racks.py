@@ -2,8 +2,11 @@
 
 HOST = 255
 CHECK = b"\x08"
+BRIDGE, DEVICE, OLDER_BRIDGE = 2, 3, 13
+BRIDGES = (BRIDGE, OLDER_BRIDGE)
 COMMAND, BUSES, IO_WINDOW, MEMORY, PREFETCHABLE = 0x04, 0x18, 0x1C, 0x20, 0x24
 PREFETCHABLE_BASE_UPPER, PREFETCHABLE_LIMIT_UPPER, IO_UPPER, CONTROL = 0x28, 0x2C, 0x30, 0x3C
+OPTIONS = (IO_WINDOW, PREFETCHABLE, PREFETCHABLE_BASE_UPPER, PREFETCHABLE_LIMIT_UPPER, IO_UPPER, CONTROL)
 EXPONENTS = {1: (2, 8), 2: (4, 31), 3: (4, 31)}
 
 
@@ -35,7 +38,7 @@ class Node:
 
     @property
     def is_bridge(self):
-        return self.kind == 2
+        return self.kind in BRIDGES
 
     def record(self):
         head = bytes([self.kind, self.parent, self.device]) + number(self.ids, 4)
@@ -47,6 +50,7 @@ class Rack:
 
     def __init__(self, first, last):
         self.first, self.last, self.nodes = first, last, []
+        self.is_high = True  # 64-bit regions lie above 4 GiB, where no older bridge's window reaches
 
     def records(self):
         return [b"\x01" + number(self.first, 8) + number(self.last, 8)] + [n.record() for n in self.nodes]
@@ -91,23 +95,27 @@ def random_host(rng):
     return Rack(first, max(last, 0))
 
 
-def random_rack(rng, bridges, devices, shape):
-    """shape: 'chain' puts each bridge below the last one, 'wide' most nodes on few buses, 'any' anything."""
+def random_rack(rng, bridges, devices, shape, older=None):
+    """shape: 'chain' puts each bridge below the last one, 'wide' most nodes on few buses, 'any' anything. `older` is the share of older
+    bridges, any where it is not given."""
     rack = random_host(rng)
     large = rng.random() < 0.2
-    kinds = [2] * bridges + [3] * devices
+    if older is None:
+        older = rng.choice((0, 0, 0.3, 0.5, 1))
+    rack.is_high = not older or rng.random() < 0.3
+    kinds = [OLDER_BRIDGE if older and rng.random() < older else BRIDGE for _ in range(bridges)] + [DEVICE] * devices
     if shape == "any":
         rng.shuffle(kinds)
     for kind in kinds:
         above = rack.bridges()
         if shape == "chain":
-            holder = above[-1] if above and (kind == 2 or rng.random() < 0.6) else rng.choice([HOST] + above) if above else HOST
+            holder = above[-1] if above and (kind != DEVICE or rng.random() < 0.6) else rng.choice([HOST] + above) if above else HOST
         elif shape == "wide":
             holder = rng.choice([HOST, HOST, HOST] + above[:2])
         else:
             holder = rng.choice([HOST] + above)
         for holder in [holder] + above + [HOST]:
-            if rack.add(rng, kind, holder, random_regions(rng, large) if kind == 3 else ()):
+            if rack.add(rng, kind, holder, random_regions(rng, large) if kind == DEVICE else ()):
                 break
     return rack
 
@@ -122,7 +130,7 @@ class Firmware:
     def __init__(self, rack):
         self.rack, self.number, self.below, self.windows, self.bases = rack, {HOST: 0}, {}, {}, {}
         self.next_bus = 1
-        self.at = {"memory": 0x80000000, "prefetchable": 0x100000000, "io": 0x1000}
+        self.at = {"memory": 0x80000000, "prefetchable": 0x100000000 if rack.is_high else 0xC0000000, "io": 0x1000}
         self.place(HOST)
 
     def place(self, holder):

@@ -1,9 +1,11 @@
 """Random scripts of calls (CALLS.md): racks with the registers that firmware would write or any others, damaged racks, images, events."""
-from racks import CHECK, EXPONENTS, HOST, Firmware, Node, access, configuration, number, random_rack
+from racks import BRIDGE, CHECK, DEVICE, EXPONENTS, HOST, OLDER_BRIDGE, Firmware, Node, access, configuration, number, random_rack
 
 DECODED = (1, 2, 3, 4, 5, 6, 7)
 ARCHIVE = (8, 9, 10, 11)
+NAMING = (1, 2, 3, 4, 5, 11)  # operations that name a node
 NODES = 96
+RECORD_BYTES = {1: 17, BRIDGE: 7, DEVICE: 13, OLDER_BRIDGE: 7}
 
 
 def spread(values):
@@ -15,13 +17,17 @@ def spread(values):
 
 
 def header(node):
-    """A node's changeable bits and its reset values, by document 01's 'Registers'."""
+    """A node's changeable bits and its reset values, by document 01's 'Registers' and document 02's E11."""
     both = {0x04: (0x0147, 2), 0x06: (0xF900, 2), 0x0C: (0xFFFF, 2), 0x3C: (0xFF, 1)}
     ids = {0x00: (node.ids, 4)}
     if node.is_bridge:
         free = {0x18: (0xFFFFFFFF, 4), 0x1C: (0xF0F0, 2), 0x1E: (0xF900, 2), 0x20: (0xFFF0FFF0, 4), 0x24: (0xFFF0FFF0, 4)}
-        free.update({0x28: (~0, 4), 0x2C: (~0, 4), 0x30: (~0, 4), 0x3E: (0x3F, 2)})
-        fixed = {0x09: (0x060400, 3), 0x0E: (1, 1), 0x1C: (0x0101, 2), 0x24: (0x00010001, 4)}
+        fixed = {0x09: (0x060400, 3), 0x0E: (1, 1)}
+        if node.kind == BRIDGE:
+            free.update({0x28: (~0, 4), 0x2C: (~0, 4), 0x30: (~0, 4), 0x3E: (0x3F, 2)})
+            fixed.update({0x1C: (0x0101, 2), 0x24: (0x00010001, 4)})
+        else:
+            free[0x3E] = (0x2F, 2)
         return spread({**both, **free}), spread({**ids, **fixed})
     free, fixed = {}, {0x0B: (0xFF, 1)}
     for r, (kind, exponent) in enumerate(node.regions):
@@ -78,7 +84,7 @@ def random_images(rng, rack, firmware):
 
 def crowd(rng, rack):
     """A 33rd bridge or 65th device, where the rack is full."""
-    kind = rng.choice((2, 3))
+    kind = rng.choice((BRIDGE, OLDER_BRIDGE, DEVICE))
     holder = next((i for i in rack.bridges() if rack.free_number(rng, i) is not None), HOST)
     rack.nodes.append(Node(kind, holder, rack.free_number(rng, holder) or 0))
 
@@ -98,7 +104,7 @@ def damage(rng, rack):
 
 def decoded(rng, rack):
     rows = [bytes([n.kind, n.parent, n.device]) + number(n.ids, 4) + bytes(x for r in n.regions for x in r) for n in rack.nodes]
-    rows += [Node(3, HOST, 0).record()] * (NODES - len(rows))
+    rows += [Node(DEVICE, HOST, 0).record()] * (NODES - len(rows))
     count = len(rack.nodes) if rng.random() < 0.97 else rng.choice((0, 96, 97, 255, len(rack.nodes) + 1))
     return number(rack.first, 8) + number(rack.last, 8) + bytes([min(count, 255)]) + b"".join(rows[:NODES])
 
@@ -126,7 +132,24 @@ def random_event(rng, rack, firmware):
 
 def any_bytes(rng, event):
     """An event as C may hand it over: cut short, too long, of no kind."""
-    return rng.choice((event[: rng.randint(0, len(event))], event + b"\x00", bytes([rng.choice((0, 1, 3, 9, 255))]) + event[1:]))
+    return rng.choice((event[: rng.randint(0, len(event))], event + b"\x00", bytes([rng.choice((0, 1, 3, 9, OLDER_BRIDGE, 255))]) + event[1:]))
+
+
+def node_kinds(call):
+    """The kinds of the nodes of a call's rack, as far as it can be read."""
+    rack = call[18 : 18 + int.from_bytes(call[1:5], "little")]
+    if call[0] in DECODED:
+        return list(rack[17:][::13][: rack[16]])
+    at, kinds = 0, []
+    while at < len(rack) and rack[at] in RECORD_BYTES:
+        kinds.append(rack[at])
+        at += RECORD_BYTES[rack[at]]
+    return kinds[1:]
+
+
+def named_kind(call):
+    """The kind of the node that a call names; none where it names none that is there."""
+    return dict(enumerate(node_kinds(call))).get(call[11]) if call[0] in NAMING else None
 
 
 def random_call(rng, operations):

@@ -10,6 +10,7 @@ static size_t record_bytes(uint8_t kind)
     switch (kind) {
     case RACK_KIND_HOST: return 1 + RACK_BODY_HOST;
     case RACK_KIND_BRIDGE: return 1 + RACK_BODY_BRIDGE;
+    case RACK_KIND_OLDER_BRIDGE: return 1 + RACK_BODY_OLDER_BRIDGE;
     case RACK_KIND_DEVICE: return 1 + RACK_BODY_DEVICE;
     default: return 0;
     }
@@ -31,7 +32,11 @@ static void find_records(struct chassis *c, size_t length)
     c->count = is_taken_apart ? at : length;
 }
 
-bool is_bridge(const struct chassis *c, unsigned node) { return c->node[node][0] == RACK_KIND_BRIDGE; }
+bool is_bridge(const struct chassis *c, unsigned node)
+{
+    uint8_t kind = c->node[node][0];
+    return kind == RACK_KIND_BRIDGE || kind == RACK_KIND_OLDER_BRIDGE;
+}
 
 const uint8_t *registers_of(const struct chassis *c, unsigned node)
 {

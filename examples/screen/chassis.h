@@ -23,6 +23,7 @@ bool load(struct chassis *c, const char *path);
 
 uint8_t reset(struct chassis *c);
 
+/* Of either kind. */
 bool is_bridge(const struct chassis *c, unsigned node);
 
 /* A node's 64 registers in the image that holds them. */

@@ -5,7 +5,14 @@
 
 void show_refusal(uint8_t number) { printf("refused, %u: %s\n", number, rack_refusal_text(number)); }
 
-static const char *kind_name(const struct chassis *c, unsigned node) { return is_bridge(c, node) ? "bridge" : "card"; }
+static const char *kind_name(const struct chassis *c, unsigned node)
+{
+    switch (c->node[node][0]) {
+    case RACK_KIND_BRIDGE: return "bridge";
+    case RACK_KIND_OLDER_BRIDGE: return "older bridge";
+    default: return "card";
+    }
+}
 
 static void show_name(const struct chassis *c, uint64_t node)
 {

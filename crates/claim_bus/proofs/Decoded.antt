@@ -6,10 +6,13 @@ use mathlib.Core.Logic.{_≢_}
 use Prim.Native.Nat.{ℕ, _<_}
 use borrow.Author.Tests.{ne-eqb, lt-ltb}
 use lib.ListN.{getD}
+use Rattle.rack.specs.declared.Kind.{Kind}
 use Rattle.rack.specs.declared.Node.{Node}
 use Rattle.rack.specs.declared.Range.{Range}
 use Rattle.rack.specs.definitions.Node.{isBridge}
 use Rattle.rack.specs.definitions.Tree.{Tree}
+use Rattle.register_header.specs.declared.Options.{Options}
+use Rattle.register_header.specs.definitions.Options.{optionsOf}
 use Rattle.register_header.specs.definitions.PciRegs.{COMMAND, COMMAND-IO, COMMAND-MEMORY, COMMAND-MASTER, SECONDARY-BUS, SUBORDINATE-BUS}
 use Rattle.register_header.specs.definitions.Register.{bitAt}
 use Rattle.register_image.specs.definitions.Image.{Images, view}
@@ -21,7 +24,7 @@ use Rattle.claim_agent.specs.definitions.Agent.{bridgeOf, areaIn, deviceOf}
 use Rattle.claim_agent.specs.definitions.WindowEnds.{windowIn, windowEnds}
 
 module _ (part : List ℕ) {c : ℕ} (ec : c ≡ getD part COMMAND 0) where
-  pub bridge-is : {io memory master : Bool} {w : Windows} {s u : ℕ} {b : Range} → w ≡ windowsOf part → s ≡ getD part SECONDARY-BUS 0
+  pub bridge-is : (k : Kind) {o : Options} {io memory master : Bool} {w : Windows} {s u : ℕ} {b : Range} → o ≡ optionsOf k → w ≡ windowsOf o part → s ≡ getD part SECONDARY-BUS 0
       → u ≡ getD part SUBORDINATE-BUS 0 → b ≡ range s u → io ≡ bitAt c COMMAND-IO → memory ≡ bitAt c COMMAND-MEMORY
       → master ≡ bitAt c COMMAND-MASTER
       → record {
@@ -30,9 +33,9 @@ module _ (part : List ℕ) {c : ℕ} (ec : c ≡ getD part COMMAND 0) where
         master = master;
         windows = w;
         buses = b;
-      } ≡ bridgeOf part
+      } ≡ bridgeOf (optionsOf k) part
   unfolding bridgeOf
-  bridge-is ew es eu eb ei em ea = rw (ei, em, ea, ew, eb, es, eu, ec)
+  bridge-is k eo ew es eu eb ei em ea = rw (ei, em, ea, ew, eo, eb, es, eu, ec)
 
   pub device-is : (n : Node) {io memory : Bool} {x y z : Area} → x ≡ areaIn n part 0 → y ≡ areaIn n part 1
       → z ≡ areaIn n part 2 → io ≡ bitAt c COMMAND-IO → memory ≡ bitAt c COMMAND-MEMORY
@@ -67,9 +70,9 @@ module _ (w : Windows) {k : ℕ} where
 -- a window or region k of node i
 module _ (t : Tree) (im : Images) (i k : ℕ) {n : Node} {part : List ℕ} {b : Bool} {r : Range} (h : k < 3) (en : n ≡ t .node i)
     (ep : part ≡ view t im i) (eb : b ≡ isBridge (n .kind)) where
-  pub ends-window : {w : Windows} → b ≡ true → w ≡ windowsOf part → r ≡ windowIn w k → r ≡ windowEnds t im i k
+  pub ends-window : {o : Options} {w : Windows} → b ≡ true → o ≡ optionsOf (n .kind) → w ≡ windowsOf o part → r ≡ windowIn w k → r ≡ windowEnds t im i k
   unfolding windowEnds
-  ends-window q ew er = simp (lt-ltb k 3 h, ← en, ← eb, q, ← ep, er, ew)
+  ends-window q eo ew er = simp (lt-ltb k 3 h, ← en, ← eb, q, ← ep, er, ew, eo)
 
   pub ends-region : {s : Area} → b ≡ false → s ≡ areaIn n part k → r ≡ s .range → r ≡ windowEnds t im i k
   unfolding windowEnds

@@ -9,6 +9,7 @@ use Rattle.rack.specs.declared.Node.{Node}
 use Rattle.rack.specs.declared.Range.{Range}
 use Rattle.rack.specs.definitions.Node.{isBridge}
 use Rattle.rack.specs.definitions.Tree.{Tree, parentOf}
+use Rattle.register_header.specs.definitions.Options.{optionsOf}
 use Rattle.register_image.specs.definitions.Image.{Images, view}
 use Rattle.claim_agent.specs.declared.Space.{Space}
 use Rattle.claim_agent.specs.declared.BridgeClaims.{BridgeClaims}
@@ -28,11 +29,11 @@ module _ (t : Tree) (im : Images) (bus g : ℕ) where
   -- a node n and its part
   module _ {n : Node} {part : List ℕ} {bridge : Bool} (ne : g ≢ 255) (en : n ≡ t .node g) (ep : part ≡ view t im g)
       (eb : bridge ≡ isBridge (n .kind)) where
-    pub agent-secondary : {b : BridgeClaims} → bridge ≡ true → g ≡ bus → b ≡ bridgeOf part → Secondary b ≡ agentOf t im bus g
+    pub agent-secondary : {b : BridgeClaims} → bridge ≡ true → g ≡ bus → b ≡ bridgeOf (optionsOf (n .kind)) part → Secondary b ≡ agentOf t im bus g
     unfolding agentOf
     agent-secondary q e r = simp (ne-eqb g 255 ne, ← en, ← eb, q, eq-eqb g bus e, ← ep, r)
 
-    pub agent-primary : {b : BridgeClaims} → bridge ≡ true → g ≢ bus → b ≡ bridgeOf part → Primary b ≡ agentOf t im bus g
+    pub agent-primary : {b : BridgeClaims} → bridge ≡ true → g ≢ bus → b ≡ bridgeOf (optionsOf (n .kind)) part → Primary b ≡ agentOf t im bus g
     unfolding agentOf
     agent-primary q e r = simp (ne-eqb g 255 ne, ← en, ← eb, q, ne-eqb g bus e, ← ep, r)
 
@@ -48,12 +49,12 @@ module _ (t : Tree) (im : Images) (bus g : ℕ) (space : Space) (a : ℕ) {r : B
 
   module _ {n : Node} {part : List ℕ} {bridge : Bool} (ne : g ≢ 255) (en : n ≡ t .node g) (ep : part ≡ view t im g)
       (eb : bridge ≡ isBridge (n .kind)) where
-    pub secondary-asked : {b : BridgeClaims} → bridge ≡ true → g ≡ bus → b ≡ bridgeOf part → r ≡ secondaryClaims b space a
+    pub secondary-asked : {b : BridgeClaims} → bridge ≡ true → g ≡ bus → b ≡ bridgeOf (optionsOf (n .kind)) part → r ≡ secondaryClaims b space a
         → r ≡ claimsOf (agentOf t im bus g) space a
     unfolding claimsOf
     secondary-asked q e s er = er ∙ ap (λ (x : Agent). claimsOf x space a) (agent-secondary t im bus g ne en ep eb q e s)
 
-    pub primary-asked : {b : BridgeClaims} → bridge ≡ true → g ≢ bus → b ≡ bridgeOf part → r ≡ primaryClaims b space a
+    pub primary-asked : {b : BridgeClaims} → bridge ≡ true → g ≢ bus → b ≡ bridgeOf (optionsOf (n .kind)) part → r ≡ primaryClaims b space a
         → r ≡ claimsOf (agentOf t im bus g) space a
     unfolding claimsOf
     primary-asked q e s er = er ∙ ap (λ (x : Agent). claimsOf x space a) (agent-primary t im bus g ne en ep eb q e s)

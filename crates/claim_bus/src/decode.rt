@@ -2,6 +2,7 @@
 ghost use mathlib.Core.Path.{_≡_};
 ghost use Prim.Native.Nat.{_<_};
 ghost use Rattle.rack.specs.definitions.Table.{treeOf};
+ghost use Rattle.register_header.specs.definitions.Options.{optionsOf};
 ghost use Rattle.register_image.specs.definitions.Image.{images};
 ghost use Rattle.claim_window.specs.definitions.Range.{range};
 ghost use Rattle.claim_agent.specs.definitions.Claim.{claimsOf};
@@ -12,11 +13,13 @@ use claim_agent::DeviceClaims;
 use claim_agent::Space;
 use claim_agent::answer::host_claims;
 use claim_window::Area;
+use rack::Kind;
 use rack::Node;
 use rack::Range;
 use rack::table::Table;
 use rack::table::host_memory;
 use rack::table::node_at;
+use register_header::edition::options_of;
 use register_header::pci_regs::COMMAND;
 use register_header::pci_regs::COMMAND_IO;
 use register_header::pci_regs::COMMAND_MASTER;
@@ -36,11 +39,11 @@ fn bus_range(secondary: u8, subordinate: u8) -> Range
     }
 }
 
-fn bridge_of(part: &[u8]) -> BridgeClaims
-    ensures { λ r. ⌜ r ≡ bridgeOf (now (part .entry)) ⌝ }
+fn bridge_of(kind: Kind, part: &[u8]) -> BridgeClaims
+    ensures { λ r. ⌜ r ≡ bridgeOf (optionsOf kind) (now (part .entry)) ⌝ }
 {
     let command = byte_at(part, COMMAND);
-    let windows = claim_window::decode::windows_of(part);
+    let windows = claim_window::decode::windows_of(options_of(kind), part);
     let buses = bus_range(byte_at(part, SECONDARY_BUS), byte_at(part, SUBORDINATE_BUS));
     BridgeClaims {
         io: bit_at(command, COMMAND_IO),
@@ -89,7 +92,7 @@ pub fn agent_at<'a>(table: &Table, bridges: &'a [u8], devices: &'a [u8], bus: u8
     let part = view(table, bridges, devices, g);
     let kind = n.kind;
     if rack::is_bridge(kind) {
-        let b = bridge_of(part);
+        let b = bridge_of(kind, part);
         if g == bus {
             return Agent::Secondary(b);
         }
@@ -117,7 +120,7 @@ pub fn agent_claims<'a>(
     let part = view(table, bridges, devices, g);
     let kind = n.kind;
     if rack::is_bridge(kind) {
-        let b = bridge_of(part);
+        let b = bridge_of(kind, part);
         if g == bus {
             return b.claims_secondary(space, a);
         }

@@ -6,3 +6,4 @@ pub mod WindowEnds
 pub mod Reach
 pub mod SameBytes
 pub mod Apart
+pub mod Lacked

@@ -1,6 +1,6 @@
 -- Windows and areas from the registers that the code has read.
 use mathlib.Core.Path.{_≡_}
-use mathlib.Core.Bool.{Bool, false, _||_}
+use mathlib.Core.Bool.{Bool, true, false, _&&_, _||_}
 use mathlib.Core.List.{List}
 use mathlib.Core.Logic.{_≢_}
 use Prim.Native.Nat.{ℕ, _+_, _*_, _/_, _%_, _^_, _<_}
@@ -10,25 +10,33 @@ use lib.Dec.{eqb, ltb}
 use lib.ListN.{getD}
 use Rattle.rack.specs.declared.Range.{Range}
 use Rattle.rack.specs.laws.Bools.{neither}
+use Rattle.register_header.specs.declared.Options.{Options}
 use Rattle.register_header.specs.definitions.PciRegs as regs
 use Rattle.register_header.specs.definitions.Register.{bitAt, readRegister}
 use Rattle.register_header.specs.definitions.Sizing.{regionRegister}
 use Rattle.claim_window.specs.definitions.Range.{window}
-use Rattle.claim_window.specs.definitions.Window.{wordAt, memoryOf, prefetchableOf, ioOf, windowsOf}
+use Rattle.claim_window.specs.definitions.Window.{wordAt, upper32, upper16, memoryOf, prefetchableOf, ioOf, windowsOf}
 use Rattle.claim_window.specs.definitions.Area.{regionValue, areaOf}
+
+-- a window between two granules
+pub window-is : (k base limit : ℕ) {x y : ℕ} {w : Range} → x ≡ base → y ≡ limit → w ≡ window k x y → w ≡ window k base limit
+window-is k base limit ex ey ew = rw (ew, ex, ey)
 
 module _ (part : List ℕ) where
   pub memory-is : {b l : ℕ} {w : Range} → b ≡ wordAt part regs.MEMORY-BASE → l ≡ wordAt part regs.MEMORY-LIMIT
       → w ≡ window 20 (b / 16) (l / 16) → w ≡ memoryOf part
   memory-is eb el ew = rw (ew, eb, el)
 
-  pub io-is : {b l u v x y : ℕ} {w : Range} → b ≡ getD part regs.IO-BASE 0 → u ≡ wordAt part regs.IO-BASE-UPPER16
-      → x ≡ u * 16 + b / 16 → l ≡ getD part regs.IO-LIMIT 0 → v ≡ wordAt part regs.IO-LIMIT-UPPER16 → y ≡ v * 16 + l / 16
-      → w ≡ window 12 x y → w ≡ ioOf part
-  io-is eb eu ex el ev ey ew = rw (ew, ex, eb, eu, ey, el, ev)
+  -- upper registers, where the bridge has them
+  pub upper-32-is : (on : Bool) (at : ℕ) {r : ℕ} → on ≡ true → at < 64 → r ≡ readRegister part at → r ≡ upper32 on part at
+  unfolding readRegister
+  upper-32-is on at q h e = rw (q, e, lt-ltb at 64 h)
 
-  pub windows-is : {c : ℕ} {m p i : Range} {isa vga wide : Bool} → c ≡ getD part regs.BRIDGE-CONTROL 0 → m ≡ memoryOf part → p ≡ prefetchableOf part
-      → i ≡ ioOf part → isa ≡ bitAt c regs.BRIDGE-CTL-ISA → vga ≡ bitAt c regs.BRIDGE-CTL-VGA
+  pub upper-16-is : (on : Bool) (at : ℕ) {r : ℕ} → on ≡ true → r ≡ wordAt part at → r ≡ upper16 on part at
+  upper-16-is on at q e = rw (q, e)
+
+  pub windows-is : (o : Options) {c : ℕ} {m p i : Range} {isa vga wide : Bool} → c ≡ getD part regs.BRIDGE-CONTROL 0 → m ≡ memoryOf part
+      → p ≡ prefetchableOf (o .prefetchable64) part → i ≡ ioOf (o .io32) part → isa ≡ bitAt c regs.BRIDGE-CTL-ISA → vga ≡ bitAt c regs.BRIDGE-CTL-VGA
       → wide ≡ bitAt c regs.BRIDGE-CTL-VGA16
       → record {
         memory = m;
@@ -36,10 +44,10 @@ module _ (part : List ℕ) where
         io = i;
         isa = isa;
         vga = vga;
-        vga16 = wide;
-      } ≡ windowsOf part
+        vga16 = o .vga16 && wide;
+      } ≡ windowsOf o part
   unfolding windowsOf
-  windows-is ec em ep ei ea eb ew = rw (em, ep, ei, ea, eb, ew, ec)
+  windows-is o ec em ep ei ea eb ew = rw (em, ep, ei, ea, eb, ew, ec)
 
   module _ (kind register : ℕ) (h : register < 60) {v : ℕ} where
     pub value-wide : {low high : ℕ} → kind ≡ 3 → low ≡ readRegister part register → high ≡ readRegister part (register + 4)

@@ -1,10 +1,11 @@
-// The windows of a bridge from its 64 register bytes.
+// The windows of a bridge from its options and its 64 register bytes.
 ghost use mathlib.Core.Path.{_≡_};
 ghost use Prim.Native.Nat.{_+_, _*_, _/_, _^_, _<_};
 ghost use Rattle.claim_window.specs.definitions.Range.{window};
-ghost use Rattle.claim_window.specs.definitions.Window.{wordAt, memoryOf, prefetchableOf, ioOf, windowsOf};
+ghost use Rattle.claim_window.specs.definitions.Window.{wordAt, upper32, upper16, prefetchableGranule, ioGranule, memoryOf, prefetchableOf, ioOf, windowsOf};
 use crate::Windows;
 use rack::Range;
+use register_header::Options;
 use register_header::pci_regs::BRIDGE_CONTROL;
 use register_header::pci_regs::BRIDGE_CTL_ISA;
 use register_header::pci_regs::BRIDGE_CTL_VGA;
@@ -66,54 +67,70 @@ fn memory_of(part: &[u8]) -> Range
     )
 }
 
-fn prefetchable_granule(word: u16, upper: u32) -> u64
-    ensures { λ r. ⌜ (r ≡ upper * 4096 + word / 16) × (r < 2 ^ 44) ⌝ }
+// The upper 32 bits, where the bridge has them.
+fn upper_32(on: bool, part: &[u8], register: u8) -> u32
+    requires { ⌜ register < 64 ⌝ }
+    ensures { λ r. ⌜ r ≡ upper32 on (now (part .entry)) register ⌝ }
 {
-    upper as u64 * 4096 + (word / 16) as u64
+    if on { read_register(part, register) } else { 0 }
 }
 
-fn prefetchable_of(part: &[u8]) -> Range
-    ensures { λ r. ⌜ r ≡ prefetchableOf (now (part .entry)) ⌝ }
+fn prefetchable_granule(on: bool, part: &[u8], at: usize, upper: u8) -> u64
+    requires { ⌜ (at < 64) × (upper < 64) ⌝ }
+    ensures { λ r. ⌜ (r ≡ prefetchableGranule on (now (part .entry)) at upper) × (r < 2 ^ 44) ⌝ }
 {
-    let base = prefetchable_granule(
-        word_at(part, PREF_MEMORY_BASE),
-        read_register(part, PREF_BASE_UPPER32),
-    );
-    let limit = prefetchable_granule(
-        word_at(part, PREF_MEMORY_LIMIT),
-        read_register(part, PREF_LIMIT_UPPER32),
-    );
-    window_20(base, limit)
+    let word = word_at(part, at);
+    upper_32(on, part, upper) as u64 * 4096 + (word / 16) as u64
 }
 
-fn io_granule(byte: u8, upper: u16) -> u64
-    ensures { λ r. ⌜ (r ≡ upper * 16 + byte / 16) × (r < 2 ^ 20) ⌝ }
+fn prefetchable_of(on: bool, part: &[u8]) -> Range
+    ensures { λ r. ⌜ r ≡ prefetchableOf on (now (part .entry)) ⌝ }
 {
-    upper as u64 * 16 + (byte / 16) as u64
+    window_20(
+        prefetchable_granule(on, part, PREF_MEMORY_BASE, PREF_BASE_UPPER32),
+        prefetchable_granule(on, part, PREF_MEMORY_LIMIT, PREF_LIMIT_UPPER32),
+    )
 }
 
-fn io_of(part: &[u8]) -> Range
-    ensures { λ r. ⌜ r ≡ ioOf (now (part .entry)) ⌝ }
+// The upper 16 bits, where the bridge has them.
+fn upper_16(on: bool, part: &[u8], at: usize) -> u16
+    requires { ⌜ at < 64 ⌝ }
+    ensures { λ r. ⌜ r ≡ upper16 on (now (part .entry)) at ⌝ }
 {
-    let base = io_granule(byte_at(part, IO_BASE), word_at(part, IO_BASE_UPPER16));
-    let limit = io_granule(byte_at(part, IO_LIMIT), word_at(part, IO_LIMIT_UPPER16));
-    window_12(base, limit)
+    if on { word_at(part, at) } else { 0 }
 }
 
-// The windows of a bridge.
-pub fn windows_of(part: &[u8]) -> Windows
-    ensures { λ r. ⌜ r ≡ windowsOf (now (part .entry)) ⌝ }
+fn io_granule(on: bool, part: &[u8], at: usize, upper: usize) -> u64
+    requires { ⌜ upper < 64 ⌝ }
+    ensures { λ r. ⌜ (r ≡ ioGranule on (now (part .entry)) at upper) × (r < 2 ^ 20) ⌝ }
+{
+    let byte = byte_at(part, at);
+    upper_16(on, part, upper) as u64 * 16 + (byte / 16) as u64
+}
+
+fn io_of(on: bool, part: &[u8]) -> Range
+    ensures { λ r. ⌜ r ≡ ioOf on (now (part .entry)) ⌝ }
+{
+    window_12(
+        io_granule(on, part, IO_BASE, IO_BASE_UPPER16),
+        io_granule(on, part, IO_LIMIT, IO_LIMIT_UPPER16),
+    )
+}
+
+// The windows of a bridge with these options, whatever its registers hold for others.
+pub fn windows_of(options: Options, part: &[u8]) -> Windows
+    ensures { λ r. ⌜ r ≡ windowsOf options (now (part .entry)) ⌝ }
 {
     let control = byte_at(part, BRIDGE_CONTROL);
     let memory = memory_of(part);
-    let prefetchable = prefetchable_of(part);
-    let io = io_of(part);
+    let prefetchable = prefetchable_of(options.prefetchable64, part);
+    let io = io_of(options.io32, part);
     Windows {
         memory,
         prefetchable,
         io,
         isa: bit_at(control, BRIDGE_CTL_ISA),
         vga: bit_at(control, BRIDGE_CTL_VGA),
-        vga16: bit_at(control, BRIDGE_CTL_VGA16),
+        vga16: options.vga16 & bit_at(control, BRIDGE_CTL_VGA16),
     }
 }

@@ -1,13 +1,13 @@
 -- A node and an event, after the code has read what their records hold.
 use mathlib.Core.Path.{_≡_}
+use mathlib.Core.Bool.{Bool, true, false}
 use mathlib.Core.List.{List, [], _∷_}
 use Prim.Native.Nat.{ℕ, _+_}
 use borrow.Author.Tests.{eq-eqb, ne-eqb}
 use Rattle.rack.specs.declared.Kind.{Kind}
-use Rattle.rack.specs.declared.Kind.the-variants.{Bridge, Device}
 use Rattle.rack.specs.declared.Region.{Region}
 use Rattle.rack.specs.declared.Node.{Node}
-use Rattle.rack.specs.definitions.Node.{noRegion}
+use Rattle.rack.specs.definitions.Node.{kindFrom, isBridge, noRegion}
 use Rattle.file_record.specs.declared.Event.the-variants.{Write, Read, Memory, Io, Check}
 use Rattle.file_record.specs.definitions.Number.{byteIn, wordIn, dwordIn, qwordIn}
 use Rattle.file_record.specs.definitions.Record.{regionFrom, nodeIn}
@@ -18,16 +18,16 @@ made k p d v i regions =
     record { kind = k; parent = p; device = d; «vendor_id» = v; «device_id» = i; regions = regions }
 
 module _ (b : List ℕ) (o : ℕ) {kind : ℕ} (ek : kind ≡ byteIn b o) where
-  module _ {p d v i : ℕ} (ep : p ≡ byteIn b (o + 1)) (ed : d ≡ byteIn b (o + 2)) (ev : v ≡ wordIn b (o + 3))
-      (ei : i ≡ wordIn b (o + 5)) where
-    pub bridge-in : kind ≡ 2 → made Bridge p d v i (noRegion ∷ noRegion ∷ noRegion ∷ []) ≡ nodeIn b o
+  module _ {p d v i : ℕ} {k : Kind} {is : Bool} (ep : p ≡ byteIn b (o + 1)) (ed : d ≡ byteIn b (o + 2)) (ev : v ≡ wordIn b (o + 3))
+      (ei : i ≡ wordIn b (o + 5)) (et : k ≡ kindFrom kind) (es : is ≡ isBridge k) where
+    pub bridge-in : is ≡ true → made k p d v i (noRegion ∷ noRegion ∷ noRegion ∷ []) ≡ nodeIn b o
     unfolding nodeIn
-    bridge-in e = rw (← ek, eq-eqb kind 2 e, ep, ed, ev, ei)
+    bridge-in e = simp (← ek, ← et, ← es, e, ep, ed, ev, ei)
 
-    pub device-in : {r s u : Region} → (kind ≡ 2 → ⊥) → r ≡ regionFrom b (o + 7) → s ≡ regionFrom b (o + 9) → u ≡ regionFrom b (o + 11)
-        → made Device p d v i (r ∷ s ∷ u ∷ []) ≡ nodeIn b o
+    pub device-in : {r s u : Region} → is ≡ false → r ≡ regionFrom b (o + 7) → s ≡ regionFrom b (o + 9) → u ≡ regionFrom b (o + 11)
+        → made k p d v i (r ∷ s ∷ u ∷ []) ≡ nodeIn b o
     unfolding nodeIn
-    device-in e er es eu = rw (← ek, ne-eqb kind 2 e, ep, ed, ev, ei, er, es, eu)
+    device-in e er es' eu = simp (← ek, ← et, ← es, e, ep, ed, ev, ei, er, es', eu)
 
   module _ {x y : ℕ} (ex : x ≡ byteIn b (o + 1)) (ey : y ≡ byteIn b (o + 2)) where
     pub write-in : {z n put : ℕ} → kind ≡ 4 → z ≡ byteIn b (o + 3) → n ≡ byteIn b (o + 4) → put ≡ dwordIn b (o + 5)

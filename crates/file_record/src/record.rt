@@ -6,14 +6,13 @@ ghost use Rattle.file_record.specs.definitions.Record.{formOf, sizeOf, c
 use crate::Class;
 use crate::number::qword_in;
 use crate::number::word_in;
-use rack::Kind;
 use rack::Node;
 use rack::Range;
 use rack::Region;
 use register_header::register::byte_at;
 
 // The class of each kind, and the length of its body.
-const CLASSES: [Class; 9] = [
+const CLASSES: [Class; 14] = [
     Class::Unknown,
     Class::Host,
     Class::Node,
@@ -23,15 +22,20 @@ const CLASSES: [Class; 9] = [
     Class::Event,
     Class::Event,
     Class::Event,
+    Class::Unknown,
+    Class::Unknown,
+    Class::Unknown,
+    Class::Unknown,
+    Class::Node,
 ];
 
-const BODIES: [u8; 9] = [0, 16, 6, 12, 8, 3, 10, 6, 0];
+const BODIES: [u8; 14] = [0, 16, 6, 12, 8, 3, 10, 6, 0, 0, 0, 0, 0, 6];
 
 fn class_of(kind: u8) -> Class
     ensures { λ r. ⌜ r ≡ formOf kind .class ⌝ }
 {
     let at = kind as usize;
-    if at < 9 {
+    if at < 14 {
         return CLASSES[at];
     }
     Class::Unknown
@@ -48,7 +52,7 @@ pub fn size_of(kind: u8) -> usize
     ensures { λ r. ⌜ (r ≡ sizeOf kind) × (1 ≤ r) × (r ≤ 17) ⌝ }
 {
     let at = kind as usize;
-    if at < 9 {
+    if at < 14 {
         return BODIES[at] as usize + 1;
     }
     1
@@ -124,13 +128,14 @@ pub fn node_in(file: &[u8], o: usize) -> Node
     let device = byte_at(file, o + 2);
     let vendor_id = word_in(file, o + 3);
     let device_id = word_in(file, o + 5);
-    if byte_at(file, o) == 2 {
+    let kind = rack::kind_from(byte_at(file, o));
+    if rack::is_bridge(kind) {
         let none = Region {
             kind: 0,
             exponent: 0,
         };
         return Node {
-            kind: Kind::Bridge,
+            kind,
             parent,
             device,
             vendor_id,
@@ -142,7 +147,7 @@ pub fn node_in(file: &[u8], o: usize) -> Node
     let s = region_from(file, o + 9);
     let t = region_from(file, o + 11);
     Node {
-        kind: Kind::Device,
+        kind,
         parent,
         device,
         vendor_id,

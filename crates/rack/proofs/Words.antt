@@ -8,11 +8,11 @@ use lib.Dec.{ltb}
 use lib.ListN.{length, getD, set, length-set}
 use lib.Seq.{getD-set-same, getD-set-other}
 use Rattle.rack.specs.declared.Kind.{Kind}
-use Rattle.rack.specs.declared.Kind.the-variants.{Device, Bridge}
+use Rattle.rack.specs.declared.Kind.the-variants.{Device, Bridge, OlderBridge}
 use Rattle.rack.specs.declared.Node.{Node}
 use Rattle.rack.specs.laws.Bools.{tested}
-use Rattle.rack.specs.definitions.Node.{kindNumber, spelt}
-use Rattle.rack.specs.definitions.Table.{Low, High, kindFrom, nodeFrom, lowAt, highAt, nodeAt, tableWith}
+use Rattle.rack.specs.definitions.Node.{kindNumber, kindFrom, spelt}
+use Rattle.rack.specs.definitions.Table.{Low, High, nodeFrom, lowAt, highAt, nodeAt, tableWith}
 
 -- a node whose two words are those of another table
 module _ (table other : List ℕ) (k : ℕ) (low : k < 96 → getD table (2 * k) 0 ≡ getD other (2 * k) 0)
@@ -60,6 +60,7 @@ module _ (table : List ℕ) (i lo hi end : ℕ) where
 kind-back : (k : Kind) → kindFrom (kindNumber k) ≡ k
 kind-back Device = refl
 kind-back Bridge = refl
+kind-back OlderBridge = refl
 
 -- the node that its two words hold
 pub node-back : (n : Node) (place depth lo hi : ℕ) → Low n place lo → High n depth hi → nodeFrom lo hi ≡ spelt n

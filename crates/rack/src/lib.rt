@@ -1,14 +1,15 @@
 // A rack: the host's memory and a tree of bridges and devices, as document 01's rack records give it.
 ghost use mathlib.Core.Path.{_≡_};
-ghost use Rattle.rack.specs.definitions.Node.{kindNumber, isBridge};
+ghost use Rattle.rack.specs.definitions.Node.{kindNumber, kindFrom, isBridge};
 
 pub mod grow;
 pub mod table;
 
-// What a node is; one number each, as the rack file has it (`kindNumber`).
+// What a node is; one number each, as the rack file has it (`kindNumber`). An older bridge is one of specification revision 1.1.
 pub enum Kind {
     Device,
     Bridge,
+    OlderBridge,
 }
 
 // A base address region: kind 0 none, 1 I/O, 2 32-bit memory, 3 64-bit memory; it has 2 to the exponent bytes.
@@ -17,7 +18,7 @@ pub struct Region {
     pub exponent: u8,
 }
 
-// A bridge or a device. The regions of a bridge are ignored.
+// A bridge, of either kind, or a device. The regions of a bridge are ignored.
 pub struct Node {
     pub kind: Kind,
     pub parent: u8,
@@ -48,7 +49,21 @@ pub fn kind_number(k: Kind) -> u8
     match k {
         Kind::Device => 3,
         Kind::Bridge => 2,
+        Kind::OlderBridge => 13,
     }
+}
+
+// The kind that has a number.
+pub fn kind_from(n: u8) -> Kind
+    ensures { λ r. ⌜ r ≡ kindFrom n ⌝ }
+{
+    if n == 2 {
+        return Kind::Bridge;
+    }
+    if n == 13 {
+        return Kind::OlderBridge;
+    }
+    Kind::Device
 }
 
 pub fn is_bridge(k: Kind) -> bool
@@ -57,5 +72,6 @@ pub fn is_bridge(k: Kind) -> bool
     match k {
         Kind::Device => false,
         Kind::Bridge => true,
+        Kind::OlderBridge => true,
     }
 }

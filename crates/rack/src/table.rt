@@ -5,8 +5,7 @@ ghost use mathlib.Core.Bool.{cond};
 ghost use Rattle.rack.specs.definitions.Tree.{bridgesBelow};
 ghost use Rattle.rack.specs.definitions.Grow.{counting, tree};
 ghost use Rattle.rack.specs.definitions.Node.{isBridge};
-ghost use Rattle.rack.specs.definitions.Table.{Bytes, Low, High, End, kindFrom, nodeFrom, lowAt, highAt, nodeAt, treeOf};
-use crate::Kind;
+ghost use Rattle.rack.specs.definitions.Table.{Bytes, Low, High, End, nodeFrom, lowAt, highAt, nodeAt, treeOf};
 use crate::Node;
 use crate::Rack;
 use crate::Range;
@@ -69,12 +68,6 @@ pub fn end_word(count: u8, deepest: u8) -> u64
     word_of(count, deepest, 0, 0, 0, 0, 0, 0)
 }
 
-fn kind_from(n: u64) -> Kind
-    ensures { λ r. ⌜ r ≡ kindFrom n ⌝ }
-{
-    if n == 2 { Kind::Bridge } else { Kind::Device }
-}
-
 fn node_from(low: u64, high: u64) -> Node
     ensures { λ r. ⌜ r ≡ nodeFrom low high ⌝ }
 {
@@ -91,7 +84,7 @@ fn node_from(low: u64, high: u64) -> Node
         exponent: (high / 0x100 % 256) as u8,
     };
     Node {
-        kind: kind_from(low % 256),
+        kind: crate::kind_from((low % 256) as u8),
         parent: (low / 0x100 % 256) as u8,
         device: (low / 0x1_0000 % 256) as u8,
         vendor_id: (high / 0x1_0000 % 65536) as u16,
@@ -158,7 +151,8 @@ pub fn device_at(table: &Table, i: u8) -> u8
 fn bridge_in(table: &Table, i: usize) -> bool
     ensures { λ r. ⌜ r ≡ isBridge (nodeAt (now (table .entry)) i .kind) ⌝ }
 {
-    low_at(table, i) % 256 == 2
+    let kind = crate::kind_from((low_at(table, i) % 256) as u8);
+    crate::is_bridge(kind)
 }
 
 pub fn is_bridge_at(table: &Table, i: u8) -> bool

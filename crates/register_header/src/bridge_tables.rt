@@ -84,7 +84,7 @@ pub const BRIDGE_WRITE: [u8; 64] = [
     0x00,
 ];
 
-// A bridge's bits cleared by writing 1: both statuses, F900h.
+// A bridge's bits cleared by writing 1, of either kind: both statuses, F900h.
 pub const BRIDGE_CLEAR: [u8; 64] = [
     // 00h VENDOR_ID, DEVICE_ID
     0x00,

@@ -14,12 +14,15 @@ use rack::Node;
 fn status_at(kind: Kind, side: Side) -> usize
     ensures { λ r. ⌜ r ≡ statusAt kind side ⌝ }
 {
-    match kind {
-        Kind::Bridge => match side {
-            Side::Primary => STATUS + 1,
-            Side::Secondary => SEC_STATUS + 1,
-        },
-        Kind::Device => STATUS + 1,
+    match side {
+        Side::Primary => STATUS + 1,
+        Side::Secondary => {
+            if rack::is_bridge(kind) {
+                SEC_STATUS + 1
+            } else {
+                STATUS + 1
+            }
+        }
     }
 }
 

@@ -8,6 +8,8 @@ use crate::bridge_tables::BRIDGE_WRITE;
 use crate::device_tables::DEVICE_CLEAR;
 use crate::device_tables::DEVICE_RESET;
 use crate::device_tables::DEVICE_WRITE;
+use crate::older_bridge_tables::OLDER_BRIDGE_RESET;
+use crate::older_bridge_tables::OLDER_BRIDGE_WRITE;
 use rack::Kind;
 
 pub fn write_entry(kind: Kind, at: usize) -> u8
@@ -16,6 +18,7 @@ pub fn write_entry(kind: Kind, at: usize) -> u8
     if at < 64 {
         match kind {
             Kind::Bridge => BRIDGE_WRITE[at],
+            Kind::OlderBridge => OLDER_BRIDGE_WRITE[at],
             Kind::Device => DEVICE_WRITE[at],
         }
     } else {
@@ -29,6 +32,7 @@ pub fn clear_entry(kind: Kind, at: usize) -> u8
     if at < 64 {
         match kind {
             Kind::Bridge => BRIDGE_CLEAR[at],
+            Kind::OlderBridge => BRIDGE_CLEAR[at],
             Kind::Device => DEVICE_CLEAR[at],
         }
     } else {
@@ -42,6 +46,7 @@ pub fn reset_entry(kind: Kind, at: usize) -> u8
     if at < 64 {
         match kind {
             Kind::Bridge => BRIDGE_RESET[at],
+            Kind::OlderBridge => OLDER_BRIDGE_RESET[at],
             Kind::Device => DEVICE_RESET[at],
         }
     } else {

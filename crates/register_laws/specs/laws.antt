@@ -4,6 +4,7 @@ pub mod Kept
 pub mod Registers
 pub mod Status
 pub mod Accepted
+pub mod Lacked
 pub mod Resets
 pub mod Exponents
 pub mod Sizes

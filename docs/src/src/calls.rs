@@ -6,7 +6,7 @@ use crate::claims;
 use crate::file;
 use crate::machine::Machine;
 use crate::program::{run_check, run_event};
-use crate::rack::{Event, Rack};
+use crate::rack::{Event, Node, Rack};
 use crate::refuse::{self, Fields};
 use crate::registers;
 use crate::windows::{region_ends, Address, Ends, Windows};
@@ -153,11 +153,16 @@ pub fn claim(
     Ok(claims::claims(&machine, bus, agent, address))
 }
 
+/// The windows of a node; 13 if it is no bridge.
+fn windows_of(machine: &Machine, bridge: u8) -> Result<Windows, u8> {
+    let options = machine.rack().bridge(bridge).and_then(Node::options).ok_or(13u8)?;
+    Ok(Windows::of(machine.part(bridge), options))
+}
+
 /// A bridge's windows, with both ends of each.
 pub fn windows(rack: &Rack, bridges: &[u8], devices: &[u8], bridge: u8) -> Result<Windows, u8> {
     let fields = Fields { bridge: Some(bridge), ..Fields::default() };
-    let machine = accept(rack, bridges, devices, &fields)?;
-    Ok(Windows::of(machine.part(bridge)))
+    windows_of(&accept(rack, bridges, devices, &fields)?, bridge)
 }
 
 /// Both ends of a device's region; none for kind 0.
@@ -185,7 +190,7 @@ pub fn window(
 ) -> Result<Option<Ends>, u8> {
     let fields = Fields { window: Some((bridge, index)), ..Fields::default() };
     let machine = accept(rack, bridges, devices, &fields)?;
-    Ok(Windows::of(machine.part(bridge)).ends(index))
+    Ok(windows_of(&machine, bridge)?.ends(index))
 }
 
 /// Both ends of a window of the node, if it is a bridge, else of a region of it.

@@ -56,11 +56,13 @@ impl Claim {
         let Some(node) = machine.rack().node(agent) else { return Claim::Nothing };
         let part = machine.part(agent);
         match &node.header {
-            Header::Bridge if agent == bus => {
-                Claim::Secondary(command_bit(part, 2), Windows::of(part))
+            Header::Bridge(options) if agent == bus => {
+                Claim::Secondary(command_bit(part, 2), Windows::of(part, *options))
             }
             _ if node.parent != bus => Claim::Nothing,
-            Header::Bridge => Claim::Primary(Spaces::of(part), Windows::of(part)),
+            Header::Bridge(options) => {
+                Claim::Primary(Spaces::of(part), Windows::of(part, *options))
+            }
             Header::Device(regions) => Claim::of_device(part, regions),
         }
     }

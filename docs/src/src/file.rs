@@ -3,7 +3,7 @@
 use std::fmt;
 
 use crate::bytes::{u16_at, u32_at, u64_at, u8_at};
-use crate::rack::{Event, Header, Node, Rack, Region};
+use crate::rack::{Event, Header, Node, Options, Rack, Region};
 use crate::refuse::{self, Fields};
 
 /// 1: "The file is longer than 65,536 bytes."
@@ -24,7 +24,8 @@ impl fmt::Display for Refused {
     }
 }
 
-/// The body's length by kind; none if "The kind is not 1 to 8".
+/// The body's length by kind; none if "The kind is not 1 to 8" nor 13, which "becomes known
+/// to refusal 2".
 fn body_length(kind: u8) -> Option<usize> {
     match kind {
         1 => Some(16),
@@ -35,29 +36,39 @@ fn body_length(kind: u8) -> Option<usize> {
         6 => Some(10),
         7 => Some(6),
         8 => Some(0),
+        13 => Some(6), // "Kind 13 has kind 2's body"
         _ => None,
     }
 }
 
+/// "Kinds 1 to 3 are rack records, 4 to 8 events." Kind 13 is no event.
+fn is_event(kind: u8) -> bool {
+    (4..=8).contains(&kind)
+}
+
 /// A whole rack file: rack records, then events.
 pub fn read(bytes: &[u8]) -> Result<(Rack, Vec<Event>), Refused> {
-    read_records(bytes, 8)
+    read_records(bytes, |_| true)
 }
 
 /// The rack records of a call: "1 to 10 as for a file, an event kind there being 2".
 pub fn read_rack(bytes: &[u8]) -> Result<Rack, Refused> {
-    read_records(bytes, 3).map(|(rack, _)| rack)
+    read_records(bytes, |kind| !is_event(kind)).map(|(rack, _)| rack)
 }
 
-/// "A file stops at its first faulty record, with the record's offset".
-fn read_records(bytes: &[u8], greatest_kind: u8) -> Result<(Rack, Vec<Event>), Refused> {
+/// "A file stops at its first faulty record, with the record's offset". Kinds that may not
+/// stand here are as unknown as those that no record has.
+fn read_records(
+    bytes: &[u8],
+    may_stand: impl Fn(u8) -> bool,
+) -> Result<(Rack, Vec<Event>), Refused> {
     if bytes.len() > LONGEST {
         return Err(Refused { number: 1, offset: LONGEST });
     }
     let mut reading = Reading { rack: None, events: Vec::new() };
     let mut offset = 0;
     while let Some(rest) = bytes.get(offset..).filter(|rest| !rest.is_empty()) {
-        match one_record(rest, greatest_kind).and_then(|(kind, body)| reading.take(kind, body)) {
+        match one_record(rest, &may_stand).and_then(|(kind, body)| reading.take(kind, body)) {
             Ok(length) => offset += 1 + length,
             Err(number) => return Err(Refused { number, offset }),
         }
@@ -68,10 +79,10 @@ fn read_records(bytes: &[u8], greatest_kind: u8) -> Result<(Rack, Vec<Event>), R
 }
 
 /// Kind and body of the record that `bytes` begin with, or refusal 2 or 3.
-fn one_record(bytes: &[u8], greatest_kind: u8) -> Result<(u8, &[u8]), u8> {
+fn one_record(bytes: &[u8], may_stand: impl Fn(u8) -> bool) -> Result<(u8, &[u8]), u8> {
     let kind = u8_at(bytes, 0);
     // 2: "The kind is not 1 to 8."
-    let length = body_length(kind).filter(|_| kind <= greatest_kind).ok_or(2u8)?;
+    let length = body_length(kind).filter(|_| may_stand(kind)).ok_or(2u8)?;
     // 3: "The body is cut short."
     let body = bytes.get(1..1 + length).ok_or(3u8)?;
     Ok((kind, body))
@@ -93,16 +104,16 @@ impl Reading {
             }
             // 4: "the first is not a host, or a later one is."
             (None, _) | (Some(_), 1) => return Err(4),
-            // 5: "A rack record follows an event."
-            (Some(_), 2 | 3) if !self.events.is_empty() => return Err(5),
-            (Some(rack), 2 | 3) => take_node(rack, node(kind, body))?,
-            (Some(rack), _) => {
+            (Some(rack), _) if is_event(kind) => {
                 let event = event(kind, body).ok_or(2u8)?;
                 match refuse::fields(rack, &Fields::of_event(&event)) {
                     Some(number) => return Err(number),
                     None => self.events.push(event),
                 }
             }
+            // 5: "A rack record follows an event."
+            (Some(_), _) if !self.events.is_empty() => return Err(5),
+            (Some(rack), _) => take_node(rack, node(kind, body))?,
         }
         Ok(body.len())
     }
@@ -120,7 +131,8 @@ fn take_node(rack: &mut Rack, node: Node) -> Result<(), u8> {
 }
 
 /// "2 bridge (6): parent, device number, vendor ID (2), device ID (2). 3 device (12):
-/// the same six bytes, then three regions of kind (1) and exponent e (1)."
+/// the same six bytes, then three regions of kind (1) and exponent e (1)." An older bridge
+/// (13) has the body of kind 2.
 pub(crate) fn node(kind: u8, body: &[u8]) -> Node {
     let region = |at| Region { kind: u8_at(body, at), exponent: u8_at(body, at + 1) };
     Node {
@@ -129,7 +141,8 @@ pub(crate) fn node(kind: u8, body: &[u8]) -> Node {
         vendor_id: u16_at(body, 2),
         device_id: u16_at(body, 4),
         header: match kind {
-            2 => Header::Bridge,
+            2 => Header::Bridge(Options::ALL),
+            13 => Header::Bridge(Options::NONE),
             _ => Header::Device([region(6), region(8), region(10)]),
         },
     }
@@ -157,7 +170,7 @@ fn event(kind: u8, body: &[u8]) -> Option<Event> {
 /// The event of a call: "no byte or no event kind is 2, any length but its own is 3."
 pub fn read_event(bytes: &[u8]) -> Result<Event, u8> {
     let (kind, body) = bytes.split_first().ok_or(2u8)?;
-    if !(4..=8).contains(kind) {
+    if !is_event(*kind) {
         return Err(2);
     }
     if body_length(*kind) != Some(body.len()) {

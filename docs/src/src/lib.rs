@@ -1,8 +1,9 @@
-//! A second, independent implementation of `01-scope.md` ("Bridge trees, claims
-//! and routes"). Text in quotes in the comments is a sentence of that document.
+//! A second, independent implementation of `01-scope.md` ("Bridge trees, claims and routes")
+//! with request E11 of `02-change-requests.md`. Text in quotes in the comments is a
+//! sentence of these two documents; what speaks of older bridges is from E11.
 //!
 //! - [`file`]: a rack file read to a rack and its events, or to a refusal.
-//! - [`rack`]: the decoded rack, buses and agents.
+//! - [`rack`]: the decoded rack, a bridge's options, buses and agents.
 //! - [`refuse`]: refusals 6 to 13 of a decoded rack, images and a call's fields.
 //! - [`registers`]: masks, reset images, register read and write, sizing.
 //! - [`machine`]: a rack that passed 6 to 10 with images that passed 11 and 12.

@@ -17,16 +17,36 @@ pub struct Region {
     pub exponent: u8,
 }
 
-/// What a node is: record kind 2 or record kind 3.
+/// What a bridge can do beyond the least that every bridge does, each yes or no: "The claim
+/// laws are shown over the set of options a bridge has, for both editions together."
+#[derive(Clone, Copy, Debug, PartialEq, Eq)]
+pub struct Options {
+    /// 32-bit I/O: the upper 16 bits of I/O base and limit at 30h and 32h.
+    pub io_32: bool,
+    /// 64-bit prefetchable memory: the upper 32 bits of its base and limit at 28h and 2Ch.
+    pub prefetchable_64: bool,
+    /// VGA 16-bit decode: bridge control bit 4.
+    pub vga_16: bool,
+}
+
+impl Options {
+    /// Those of a bridge of revision 1.2, kind 2.
+    pub const ALL: Options = Options { io_32: true, prefetchable_64: true, vga_16: true };
+    /// Those of an older bridge, kind 13: "revision 1.1 with the smaller options".
+    pub const NONE: Options = Options { io_32: false, prefetchable_64: false, vga_16: false };
+}
+
+/// What a node is: record kind 2, 13 or 3.
 #[derive(Clone, Copy, Debug, PartialEq, Eq)]
 pub enum Header {
-    /// "2 bridge (6)"
-    Bridge,
+    /// "2 bridge (6)" and "Kind 13 has kind 2's body", told apart by their options alone: "an
+    /// older bridge is in all else a node and bridge as kind 2 is".
+    Bridge(Options),
     /// "3 device (12)", with its three regions.
     Device([Region; 3]),
 }
 
-/// "Nodes (kinds 2 and 3) are numbered from 0 in file order."
+/// "Nodes (kinds 2 and 3) are numbered from 0 in file order", an older bridge among them.
 #[derive(Clone, Copy, Debug, PartialEq, Eq)]
 pub struct Node {
     /// The bus the node sits on, named by its holder.
@@ -42,9 +62,17 @@ pub struct Node {
 }
 
 impl Node {
-    /// Whether the node is a bridge.
+    /// Whether the node is a bridge, older or not.
     pub fn is_bridge(&self) -> bool {
-        self.header == Header::Bridge
+        self.options().is_some()
+    }
+
+    /// The options of the node, if it is a bridge.
+    pub fn options(&self) -> Option<Options> {
+        match &self.header {
+            Header::Bridge(options) => Some(*options),
+            Header::Device(_) => None,
+        }
     }
 }
 
@@ -73,7 +101,7 @@ impl Rack {
     /// The regions of the node of that number, if it is a device.
     pub fn regions(&self, number: u8) -> Option<&[Region; 3]> {
         match &self.node(number)?.header {
-            Header::Bridge => None,
+            Header::Bridge(_) => None,
             Header::Device(regions) => Some(regions),
         }
     }

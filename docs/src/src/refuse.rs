@@ -20,7 +20,7 @@ pub fn node(earlier: &[Node], node: &Node) -> Option<u8> {
     }
 }
 
-/// 6: "A 33rd bridge or 65th device appears."
+/// 6: "A 33rd bridge or 65th device appears." An older bridge "counts among the 32".
 fn too_many(earlier: &[Node], node: &Node) -> bool {
     let alike = earlier.iter().filter(|e| e.is_bridge() == node.is_bridge());
     let most = if node.is_bridge() { MOST_BRIDGES } else { MOST_DEVICES };
@@ -42,7 +42,7 @@ fn device_number_taken(earlier: &[Node], node: &Node) -> bool {
 /// 10: "A region's kind or exponent is out of range."
 fn regions_in_range(node: &Node) -> bool {
     match &node.header {
-        Header::Bridge => true,
+        Header::Bridge(_) => true,
         Header::Device(regions) => regions.iter().all(region_in_range),
     }
 }

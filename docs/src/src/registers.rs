@@ -1,7 +1,7 @@
 //! "Registers": masks, reset values, the part of a node, read, write and sizing.
 
 use crate::bytes::{put, u32_at, u8_at};
-use crate::rack::{Header, Node, Rack, Region};
+use crate::rack::{Header, Node, Options, Rack, Region};
 
 /// "Each node has 64 bytes."
 pub const PART: usize = 64;
@@ -22,7 +22,10 @@ pub struct Masks {
 pub fn masks(node: &Node) -> Masks {
     let mut masks = common_masks(node);
     match &node.header {
-        Header::Bridge => add_bridge(&mut masks),
+        Header::Bridge(options) => {
+            add_bridge(&mut masks);
+            add_options(&mut masks, options);
+        }
         Header::Device(regions) => add_device(&mut masks, regions),
     }
     masks
@@ -44,7 +47,7 @@ fn common_masks(node: &Node) -> Masks {
     masks
 }
 
-/// The rest of the bridge's list.
+/// The rest of the bridge's list, without what an option adds to it.
 fn add_bridge(masks: &mut Masks) {
     // "09h to 0Bh fixed 00 04 06"
     put(&mut masks.reset, 0x09, &[0x00, 0x04, 0x06]);
@@ -52,23 +55,37 @@ fn add_bridge(masks: &mut Masks) {
     put(&mut masks.reset, 0x0E, &[0x01]);
     // "18h primary, 19h secondary, 1Ah subordinate, 1Bh each FFh"
     put(&mut masks.write, 0x18, &[0xFF; 4]);
-    // "1Ch, 1Dh I/O base and limit F0h, reset 01"
+    // "1Ch, 1Dh I/O base and limit F0h"
     put(&mut masks.write, 0x1C, &[0xF0, 0xF0]);
-    put(&mut masks.reset, 0x1C, &[0x01, 0x01]);
     // "1Eh secondary status, clear F900h"
     put(&mut masks.clear, 0x1E, &0xF900u16.to_le_bytes());
     // "20h, 22h memory base and limit FFF0h"
     put(&mut masks.write, 0x20, &0xFFF0u16.to_le_bytes());
     put(&mut masks.write, 0x22, &0xFFF0u16.to_le_bytes());
-    // "24h, 26h prefetchable base and limit FFF0h, reset 0001h"
+    // "24h, 26h prefetchable base and limit FFF0h"
     put(&mut masks.write, 0x24, &0xFFF0u16.to_le_bytes());
     put(&mut masks.write, 0x26, &0xFFF0u16.to_le_bytes());
-    put(&mut masks.reset, 0x24, &0x0001u16.to_le_bytes());
-    put(&mut masks.reset, 0x26, &0x0001u16.to_le_bytes());
-    // "28h, 2Ch their upper 32 bits and 30h, 32h the I/O upper 16 bits, all writable"
-    put(&mut masks.write, 0x28, &[0xFF; 12]);
-    // "3Eh bridge control 003Fh"
-    put(&mut masks.write, 0x3E, &0x003Fu16.to_le_bytes());
+    // "3Eh bridge control 003Fh", of which bit 4 is an option's.
+    put(&mut masks.write, 0x3E, &0x002Fu16.to_le_bytes());
+}
+
+/// What each option adds. Without it these bits are as all that no list names: "The rest is
+/// fixed 0."
+fn add_options(masks: &mut Masks, options: &Options) {
+    if options.io_32 {
+        // The low digit 1 shows software that "30h, 32h the I/O upper 16 bits" are there.
+        put(&mut masks.reset, 0x1C, &[0x01, 0x01]);
+        put(&mut masks.write, 0x30, &[0xFF; 4]);
+    }
+    if options.prefetchable_64 {
+        // As above, for "28h, 2Ch their upper 32 bits".
+        put(&mut masks.reset, 0x24, &0x0001u16.to_le_bytes());
+        put(&mut masks.reset, 0x26, &0x0001u16.to_le_bytes());
+        put(&mut masks.write, 0x28, &[0xFF; 8]);
+    }
+    if options.vga_16 {
+        put(&mut masks.write, 0x3E, &0x003Fu16.to_le_bytes());
+    }
 }
 
 /// The rest of the device's list.
@@ -192,7 +209,7 @@ pub fn written(old: u8, write: u8, clear: u8, value: u8) -> u8 {
 pub fn size(part: &mut [u8], node: &Node, index: u8) -> u64 {
     let register = region_register(index);
     let kind = match &node.header {
-        Header::Bridge => 0,
+        Header::Bridge(_) => 0,
         Header::Device(regions) => regions.get(usize::from(index)).map_or(0, |r| r.kind),
     };
     let low = |back: u32, type_bits: u32| back & !type_bits;

@@ -178,17 +178,19 @@ fn decoded(bytes: &[u8]) -> Option<Rack> {
     let count = usize::from(u8_at(bytes, 16));
     let mut nodes = Vec::with_capacity(count);
     for record in bytes.get(NODES..)?.chunks_exact(NODE).take(count) {
-        // "kind (2 a bridge, 3 a device; never another), parent, device number, vendor ID
-        // (2), device ID (2), three regions of kind and exponent": a device's body.
+        // "kind (2 a bridge, 3 a device, 13 an older bridge; never another), parent, device
+        // number, vendor ID (2), device ID (2), three regions of kind and exponent": a
+        // device's body.
         let (kind, body) = record.split_first()?;
-        if !matches!(kind, 2 | 3) {
+        if !matches!(kind, 2 | 3 | 13) {
             return None;
         }
         nodes.push(file::node(*kind, body));
     }
-    // "the nodes behind the 96th are then there without their bytes, and the first of them
-    // is a 33rd bridge or a 65th device if nothing is refused before": 96 nodes that are not
-    // refused are 32 bridges and 64 devices, so that 6 refuses the next one of either kind.
+    // "the nodes behind the 96th are then there without their bytes, and the first of them is
+    // a 33rd bridge (of either kind) or a 65th device if nothing is refused before": 96 nodes
+    // that are not refused are 32 bridges and 64 devices, so that 6 refuses the next one,
+    // whatever it is.
     nodes.resize(count, file::node(3, &[]));
     Some(Rack { host_first: u64_at(bytes, 0), host_last: u64_at(bytes, 8), nodes })
 }

@@ -1,7 +1,7 @@
 //! Both ends of a bridge's windows and of a device's region, and the windows' answers.
 
 use crate::bytes::{u16_at, u32_at, u64_at, u8_at};
-use crate::rack::Region;
+use crate::rack::{Options, Region};
 use crate::registers::{bits_from, region_register};
 
 /// An address of one of the two kinds that claims and routes speak of.
@@ -36,7 +36,7 @@ pub const VGA_IO_LOW: Ends = Ends { first: 0x3B0, last: 0x3BB };
 /// "or 3C0h to 3DFh"
 pub const VGA_IO_HIGH: Ends = Ends { first: 0x3C0, last: 0x3DF };
 
-/// A bridge's windows as its registers give them.
+/// A bridge's windows as its registers give them, as far as its options let them count.
 #[derive(Clone, Copy, Debug, PartialEq, Eq)]
 pub struct Windows {
     /// Memory base to limit.
@@ -49,7 +49,7 @@ pub struct Windows {
     pub isa: bool,
     /// Bridge control bit 3.
     pub vga: bool,
-    /// Bridge control bit 4.
+    /// Bridge control bit 4; clear in a bridge without VGA 16-bit decode.
     pub vga_all_bits: bool,
 }
 
@@ -63,38 +63,37 @@ fn memory_ends(part: &[u8]) -> Ends {
     Ends { first: megabytes(u16_at(part, 0x20)), last: megabytes(u16_at(part, 0x22)) | 0xF_FFFF }
 }
 
-/// "prefetchable: the same with upper 32 bits, compared over 64 bits"
-fn prefetchable_ends(part: &[u8]) -> Ends {
-    let base_upper = u64::from(u32_at(part, 0x28)) << 32;
-    let limit_upper = u64::from(u32_at(part, 0x2C)) << 32;
+/// "prefetchable: the same with upper 32 bits, compared over 64 bits"; without 64-bit
+/// addresses both upper halves are 0, so that the window lies below 4 GiB.
+fn prefetchable_ends(part: &[u8], has_64_bits: bool) -> Ends {
+    let upper = |at| if has_64_bits { u64::from(u32_at(part, at)) << 32 } else { 0 };
     Ends {
-        first: base_upper | megabytes(u16_at(part, 0x24)),
-        last: limit_upper | megabytes(u16_at(part, 0x26)) | 0xF_FFFF,
+        first: upper(0x28) | megabytes(u16_at(part, 0x24)),
+        last: upper(0x2C) | megabytes(u16_at(part, 0x26)) | 0xF_FFFF,
     }
 }
 
-/// "I/O: bits 7 to 4 give address bits 15 to 12, upper registers bits 31 to 16,
-/// limit filled with ones."
-fn io_ends(part: &[u8]) -> Ends {
-    let base = u64::from(u8_at(part, 0x1C) >> 4) << 12;
-    let limit = u64::from(u8_at(part, 0x1D) >> 4) << 12;
-    Ends {
-        first: u64::from(u16_at(part, 0x30)) << 16 | base,
-        last: u64::from(u16_at(part, 0x32)) << 16 | limit | 0xFFF,
-    }
+/// "I/O: bits 7 to 4 give address bits 15 to 12, upper registers bits 31 to 16, limit
+/// filled with ones"; with 16-bit I/O both upper halves are 0, so that "I/O at 10000h or
+/// above is outside the window".
+fn io_ends(part: &[u8], has_32_bits: bool) -> Ends {
+    let lower = |at| u64::from(u8_at(part, at) >> 4) << 12;
+    let upper = |at| if has_32_bits { u64::from(u16_at(part, at)) << 16 } else { 0 };
+    Ends { first: upper(0x30) | lower(0x1C), last: upper(0x32) | lower(0x1D) | 0xFFF }
 }
 
 impl Windows {
-    /// The windows of a bridge with these 64 bytes.
-    pub fn of(part: &[u8]) -> Windows {
+    /// The windows of a bridge with these 64 bytes and options. The bytes of an option that
+    /// the bridge lacks count as 0, whatever they hold.
+    pub fn of(part: &[u8], options: Options) -> Windows {
         let control = u16_at(part, 0x3E);
         Windows {
             memory: memory_ends(part),
-            prefetchable: prefetchable_ends(part),
-            io: io_ends(part),
+            prefetchable: prefetchable_ends(part, options.prefetchable_64),
+            io: io_ends(part, options.io_32),
             isa: control >> 2 & 1 == 1,
             vga: control >> 3 & 1 == 1,
-            vga_all_bits: control >> 4 & 1 == 1,
+            vga_all_bits: options.vga_16 && control >> 4 & 1 == 1,
         }
     }
 

@@ -7,6 +7,8 @@ use lib.ListN.{getD}
 use Rattle.rack.specs.declared.Node.{Node}
 use Rattle.rack.specs.definitions.Node.{isBridge, regionIn}
 use Rattle.rack.specs.definitions.Tree.{Tree, host}
+use Rattle.register_header.specs.declared.Options.{Options}
+use Rattle.register_header.specs.definitions.Options.{optionsOf}
 use Rattle.register_header.specs.definitions.PciRegs.{COMMAND, COMMAND-IO, COMMAND-MEMORY, COMMAND-MASTER, SECONDARY-BUS, SUBORDINATE-BUS}
 use Rattle.register_header.specs.definitions.Register.{bitAt}
 use Rattle.register_image.specs.definitions.Image.{Images, view}
@@ -20,13 +22,13 @@ use Rattle.claim_agent.specs.declared.Agent.{Agent}
 use Rattle.claim_agent.specs.declared.Agent.the-variants.{Primary, Secondary, Device, Host}
 
 -- 01: 'command bit 0 (I/O) or 1 (memory)', 'if bit 2 is set', 'secondary ≤ bus ≤ subordinate'
-unfoldable pub bridgeOf : List ℕ → BridgeClaims
-bridgeOf part =
+unfoldable pub bridgeOf : Options → List ℕ → BridgeClaims
+bridgeOf o part =
     record {
       io = bitAt (getD part COMMAND 0) COMMAND-IO;
       memory = bitAt (getD part COMMAND 0) COMMAND-MEMORY;
       master = bitAt (getD part COMMAND 0) COMMAND-MASTER;
-      windows = windowsOf part;
+      windows = windowsOf o part;
       buses = range (getD part SECONDARY-BUS 0) (getD part SUBORDINATE-BUS 0);
     }
 
@@ -44,10 +46,14 @@ deviceOf n part =
       third = areaIn n part 2;
     }
 
+-- bridge g of a rack, with the options of its kind
+abbrev pub bridgeIn : Tree → Images → ℕ → BridgeClaims
+bridgeIn t im g = bridgeOf (optionsOf (t .node g .kind)) (view t im g)
+
 -- agent g of a bus: the host, the bridge that holds the bus, or a node on it
 unfoldable pub agentOf : Tree → Images → ℕ → ℕ → Agent
 agentOf t im bus g =
     cond (eqb g host) (Host (t .hostMemory))
     (cond (isBridge (t .node g .kind))
-    (cond (eqb g bus) (Secondary (bridgeOf (view t im g))) (Primary (bridgeOf (view t im g))))
+    (cond (eqb g bus) (Secondary (bridgeIn t im g)) (Primary (bridgeIn t im g)))
     (Device (deviceOf (t .node g) (view t im g))))

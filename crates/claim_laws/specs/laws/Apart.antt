@@ -1,19 +1,18 @@
 -- A claim does not depend on status bits, nor on the bytes of other nodes.
 use mathlib.Core.Path.{_≡_, refl, sym, ap, _∙_, fun-ext}
 use mathlib.Core.Logic.{_≢_}
-use mathlib.Core.Bool.{Bool, false}
+use mathlib.Core.Bool.{Bool, true, false}
 use mathlib.Core.List.{List}
 use Prim.Native.Nat.{ℕ, _≤_, _<_}
 use native.Mathlib.Omega.{arith}
 use lib.Dec.{ltb, eqb}
 use lib.ListN.{length}
 use borrow.Author.Tests.{ltb-true, ltb-false, eqb-true, eqb-false}
-use Rattle.rack.specs.declared.Kind.{Kind}
-use Rattle.rack.specs.declared.Kind.the-variants.{Bridge, Device}
 use Rattle.rack.specs.definitions.Node.{isBridge}
 use Rattle.rack.specs.definitions.Tree.{Tree, agents}
 use Rattle.rack.specs.definitions.Stored.{Stored}
 use Rattle.rack.specs.laws.Bools.{tested}
+use Rattle.register_header.specs.definitions.Options.{optionsOf}
 use Rattle.register_header.specs.declared.Side.{Side}
 use Rattle.register_header.specs.declared.StatusBit.{StatusBit}
 use Rattle.register_header.specs.definitions.Register.{setStatus}
@@ -88,15 +87,16 @@ module _ (t : Tree) (im im' : Images) (s : SameButStatus t im im') where
   pub agent-same : (bus g : ℕ) → agentOf t im bus g ≡ agentOf t im' bus g
   unfolding agentOf
   agent-same bus g =
-      tested (ltb g (t .count)) (λ q. either (t .node g .kind) refl (s .views g (ltb-true g (t .count) q)))
+      tested (ltb g (t .count)) (λ q. either (isBridge (t .node g .kind)) refl (s .views g (ltb-true g (t .count) q)))
       (λ q.
       let m : t .count ≤ g = ltb-false g (t .count) q in
       agent-view t im im' bus g (view-missing t im g m ∙ sym (view-missing t im' g m)))
     where
-      either : (k : Kind) → t .node g .kind ≡ k → SameBytes (t .node g) (view t im g) (view t im' g)
+      either : (bridge : Bool) → isBridge (t .node g .kind) ≡ bridge → SameBytes (t .node g) (view t im g) (view t im' g)
           → agentOf t im bus g ≡ agentOf t im' bus g
-      either Bridge is r = rw (ap isBridge is, bridge-same (t .node g) (view t im g) (view t im' g) r is)
-      either Device is r = rw (ap isBridge is, device-same (t .node g) (view t im g) (view t im' g) r is)
+      either true is r =
+          rw (is, bridge-same (optionsOf (t .node g .kind)) (t .node g) (view t im g) (view t im' g) r is)
+      either false is r = rw (is, device-same (t .node g) (view t im g) (view t im' g) r is)
 
   -- so is each claim
   pub claims-same : (space : Space) (bus g a : ℕ) → claims t im space bus g a ≡ claims t im' space bus g a

@@ -1,4 +1,4 @@
--- Comparing granules and comparing full addresses say the same.
+-- Comparing granules and comparing full addresses say the same, whatever a bridge's options.
 use mathlib.Core.Path.{_≡_, ap, ap₂}
 use mathlib.Core.Bool.{Bool, not, _&&_, _||_}
 use mathlib.Core.List.{List}
@@ -7,6 +7,7 @@ use native.Mathlib.Nat.{suc-mul, le-div-iff-mul-le, div-lt-iff-lt-mul}
 use native.Mathlib.Omega.{arith}
 use lib.Dec.{leb}
 use lib.Pow.{pow-pos}
+use Rattle.register_header.specs.declared.Options.{Options}
 use Rattle.register_header.specs.definitions.PciRegs.{IO-BASE, IO-LIMIT, MEMORY-BASE, MEMORY-LIMIT, PREF-MEMORY-BASE, PREF-MEMORY-LIMIT, PREF-BASE-UPPER32, PREF-LIMIT-UPPER32, IO-BASE-UPPER16, IO-LIMIT-UPPER16}
 use Rattle.claim_window.specs.definitions.Range.{within, window}
 use Rattle.claim_window.specs.definitions.Window.{memoryGranule, prefetchableGranule, ioGranule, windowsOf}
@@ -27,47 +28,47 @@ granules k base limit a =
     (λ h. let l : a < suc limit * 2 ^ k = div-lt-iff-lt-mul p .0 (omega arith) in omega arith)
     (λ h. let l : suc limit * 2 ^ k ≤ a = le-div-iff-mul-le p .0 h in omega arith))
 
-module _ (part : List ℕ) (a : ℕ) where
+module _ (o : Options) (part : List ℕ) (a : ℕ) where
   -- the granules of the three windows
   abbrev pub memoryGranules : Bool
   memoryGranules = inGranules 20 (memoryGranule part MEMORY-BASE) (memoryGranule part MEMORY-LIMIT) a
 
   abbrev pub prefetchableGranules : Bool
   prefetchableGranules =
-      inGranules 20 (prefetchableGranule part PREF-MEMORY-BASE PREF-BASE-UPPER32)
-      (prefetchableGranule part PREF-MEMORY-LIMIT PREF-LIMIT-UPPER32) a
+      inGranules 20 (prefetchableGranule (o .prefetchable64) part PREF-MEMORY-BASE PREF-BASE-UPPER32)
+      (prefetchableGranule (o .prefetchable64) part PREF-MEMORY-LIMIT PREF-LIMIT-UPPER32) a
 
   abbrev pub ioGranules : Bool
   ioGranules =
-      inGranules 12 (ioGranule part IO-BASE IO-BASE-UPPER16) (ioGranule part IO-LIMIT IO-LIMIT-UPPER16) a
-      && not (isaCut (windowsOf part) a)
+      inGranules 12 (ioGranule (o .io32) part IO-BASE IO-BASE-UPPER16) (ioGranule (o .io32) part IO-LIMIT IO-LIMIT-UPPER16) a
+      && not (isaCut (windowsOf o part) a)
 
   -- the memory window
-  pub memory-granules : inMemory (windowsOf part) a ≡ memoryGranules
+  pub memory-granules : inMemory (windowsOf o part) a ≡ memoryGranules
   unfolding windowsOf
   memory-granules = granules 20 (memoryGranule part MEMORY-BASE) (memoryGranule part MEMORY-LIMIT) a
 
   -- the prefetchable window
-  pub prefetchable-granules : inPrefetchable (windowsOf part) a ≡ prefetchableGranules
+  pub prefetchable-granules : inPrefetchable (windowsOf o part) a ≡ prefetchableGranules
   unfolding windowsOf
   prefetchable-granules =
-      granules 20 (prefetchableGranule part PREF-MEMORY-BASE PREF-BASE-UPPER32)
-      (prefetchableGranule part PREF-MEMORY-LIMIT PREF-LIMIT-UPPER32) a
+      granules 20 (prefetchableGranule (o .prefetchable64) part PREF-MEMORY-BASE PREF-BASE-UPPER32)
+      (prefetchableGranule (o .prefetchable64) part PREF-MEMORY-LIMIT PREF-LIMIT-UPPER32) a
 
   -- the I/O window, with what ISA cuts out
-  pub io-granules : inIo (windowsOf part) a ≡ ioGranules
+  pub io-granules : inIo (windowsOf o part) a ≡ ioGranules
   unfolding windowsOf
   io-granules =
-      ap (λ (t : Bool). t && not (isaCut (windowsOf part) a))
-      (granules 12 (ioGranule part IO-BASE IO-BASE-UPPER16) (ioGranule part IO-LIMIT IO-LIMIT-UPPER16) a)
+      ap (λ (t : Bool). t && not (isaCut (windowsOf o part) a))
+      (granules 12 (ioGranule (o .io32) part IO-BASE IO-BASE-UPPER16) (ioGranule (o .io32) part IO-LIMIT IO-LIMIT-UPPER16) a)
 
   -- what the windows hold of the memory space, either way
-  pub memory-both-ways : insideMemory (windowsOf part) a ≡ (memoryGranules || (prefetchableGranules || inVgaMemory (windowsOf part) a))
+  pub memory-both-ways : insideMemory (windowsOf o part) a ≡ (memoryGranules || (prefetchableGranules || inVgaMemory (windowsOf o part) a))
   unfolding insideMemory
   memory-both-ways =
-      ap₂ (λ (m p : Bool). m || (p || inVgaMemory (windowsOf part) a)) memory-granules prefetchable-granules
+      ap₂ (λ (m p : Bool). m || (p || inVgaMemory (windowsOf o part) a)) memory-granules prefetchable-granules
 
   -- and of the I/O space
-  pub io-both-ways : insideIo (windowsOf part) a ≡ (ioGranules || inVgaIo (windowsOf part) a)
+  pub io-both-ways : insideIo (windowsOf o part) a ≡ (ioGranules || inVgaIo (windowsOf o part) a)
   unfolding insideIo
-  io-both-ways = ap (λ (t : Bool). t || inVgaIo (windowsOf part) a) io-granules
+  io-both-ways = ap (λ (t : Bool). t || inVgaIo (windowsOf o part) a) io-granules

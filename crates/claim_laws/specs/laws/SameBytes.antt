@@ -10,15 +10,16 @@ use lib.ListN.{length, getD}
 use lib.Seq.{getD-set-same, getD-set-other, set-out}
 use borrow.Author.Tests.{ltb-true, ltb-false, eqb-true, eqb-false, ne-eqb}
 use Rattle.rack.specs.declared.Kind.{Kind}
-use Rattle.rack.specs.declared.Kind.the-variants.{Bridge, Device}
+use Rattle.rack.specs.declared.Kind.the-variants.{Bridge, OlderBridge, Device}
 use Rattle.rack.specs.declared.Node.{Node}
 use Rattle.rack.specs.definitions.Node.{regionIn, isBridge}
 use Rattle.rack.specs.laws.Bools.{tested}
+use Rattle.register_header.specs.declared.Options.{Options}
 use Rattle.register_header.specs.declared.Side.{Side}
 use Rattle.register_header.specs.declared.StatusBit.{StatusBit}
 use Rattle.register_header.specs.declared.StatusBit.the-variants.{SignaledTargetAbort, ReceivedTargetAbort, ReceivedMasterAbort}
 use Rattle.register_header.specs.definitions.PciRegs.{COMMAND, SECONDARY-BUS, SUBORDINATE-BUS, IO-BASE, IO-LIMIT, MEMORY-BASE, MEMORY-LIMIT, PREF-MEMORY-BASE, PREF-MEMORY-LIMIT, PREF-BASE-UPPER32, PREF-LIMIT-UPPER32, IO-BASE-UPPER16, IO-LIMIT-UPPER16, BRIDGE-CONTROL}
-use Rattle.register_header.specs.laws.Every.{every, at, past}
+use Rattle.register_header.specs.laws.Every.{every, clear-long, everywhere}
 use Rattle.register_header.specs.definitions.Tables.{clearTable}
 use Rattle.register_header.specs.definitions.Mask.{clearMask}
 use Rattle.register_header.specs.definitions.Sizing.{regionRegister}
@@ -27,56 +28,56 @@ use Rattle.register_laws.specs.laws.Status.{status-only}
 use Rattle.claim_window.specs.definitions.Window.{wordAt, windowsOf}
 use Rattle.claim_window.specs.definitions.Area.{areaOf}
 use Rattle.claim_agent.specs.definitions.Agent.{areaIn, bridgeOf, deviceOf}
-use Rattle.claim_laws.specs.definitions.Same.{SameBytes}
+use Rattle.claim_laws.specs.definitions.Same.{SameOutside, SameBytes}
 
--- the bytes that hold status bits
-abbrev pub statusByte : Kind → ℕ → Bool
-statusByte kind at = eqb at 7 || (isBridge kind && eqb at 0x1f)
+-- the bytes of a bridge, or of a device, that hold status bits
+abbrev pub statusByte : Bool → ℕ → Bool
+statusByte bridge at = eqb at 7 || (bridge && eqb at 0x1f)
 
--- one test, computed over both clear tables: no other byte's clear mask has a bit
-cleared : (kind : Kind) → every (λ k c. eqb c 0 || statusByte kind k) 0 (clearTable kind) ≡ true
+-- one test, computed over every clear table: no other byte's clear mask has a bit
+cleared : (kind : Kind) → every (λ k c. eqb c 0 || statusByte (isBridge kind) k) 0 (clearTable kind) ≡ true
 cleared Bridge = refl
+cleared OlderBridge = refl
 cleared Device = refl
 
 -- so where a byte holds no status bits, its clear mask is 0
-pub clear-none : (n : Node) (k : ℕ) → statusByte (n .kind) k ≡ false → clearMask n k ≡ 0
+pub clear-none : (n : Node) (k : ℕ) → statusByte (isBridge (n .kind)) k ≡ false → clearMask n k ≡ 0
 unfolding clearMask
 clear-none n k e =
-    tested (ltb k 64)
-    (λ q. eqb-true _ 0 (or-first _ _ e (at _ (clearTable (n .kind)) (cleared (n .kind)) k (rw (long (n .kind)) (ltb-true k 64 q)))))
-    (λ q. past clearTable refl refl (n .kind) k (ltb-false k 64 q))
+    eqb-true _ 0
+    (or-first _ _ e (everywhere clearTable clear-long (n .kind) _ (cleared (n .kind)) (λ m h. refl) k))
   where
-    long : (kind : Kind) → length (clearTable kind) ≡ 64
-    long Bridge = refl
-    long Device = refl
-
     or-first : (a b : Bool) → b ≡ false → (a || b) ≡ true → a ≡ true
     or-first true b f e = refl
     or-first false b f e = absurd (false≢true (sym f ∙ e))
 
-module _ (n : Node) (p q : List ℕ) (s : SameBytes n p q) (kind : Kind) (is : n .kind ≡ kind) where
+-- where a mask has no bit, parts that differ under it alone have the same byte
+pub outside-same : {mask : ℕ → ℕ} (p q : List ℕ) → SameOutside mask p q → (k : ℕ) → mask k ≡ 0 → getD p k 0 ≡ getD q k 0
+outside-same p q s k z =
+    let b : bitAnd (getD p k 0) 255 ≡ bitAnd (getD q k 0) 255 = rw z at (s .bits k) in
+    let m : getD p k 0 % 256 ≡ getD q k 0 % 256 = sym (and-mask (getD p k 0) 8) ∙ b ∙ and-mask (getD q k 0) 8 in
+    omega (arith, s .above k)
+
+module _ (n : Node) (p q : List ℕ) (s : SameBytes n p q) (bridge : Bool) (is : isBridge (n .kind) ≡ bridge) where
   -- every byte without status bits is the same
-  pub byte-same : (k : ℕ) → statusByte kind k ≡ false → getD p k 0 ≡ getD q k 0
-  byte-same k c =
-      let b : bitAnd (getD p k 0) 255 ≡ bitAnd (getD q k 0) 255 = rw (clear-none n k (rw is c)) at (s .bits k) in
-      let m : getD p k 0 % 256 ≡ getD q k 0 % 256 = sym (and-mask (getD p k 0) 8) ∙ b ∙ and-mask (getD q k 0) 8 in
-      omega (arith, s .above k)
+  pub byte-same : (k : ℕ) → statusByte bridge k ≡ false → getD p k 0 ≡ getD q k 0
+  byte-same k c = outside-same p q s k (clear-none n k (rw is c))
 
   -- so is every word of them, and every dword
-  word-same : (k : ℕ) → statusByte kind k ≡ false → statusByte kind (k + 1) ≡ false → wordAt p k ≡ wordAt q k
+  word-same : (k : ℕ) → statusByte bridge k ≡ false → statusByte bridge (k + 1) ≡ false → wordAt p k ≡ wordAt q k
   word-same k c0 c1 = rw (byte-same k c0, byte-same (k + 1) c1)
 
-  dword-same : (k : ℕ) → statusByte kind k ≡ false → statusByte kind (k + 1) ≡ false → statusByte kind (k + 2) ≡ false
-      → statusByte kind (k + 3) ≡ false → dwordAt p k ≡ dwordAt q k
+  dword-same : (k : ℕ) → statusByte bridge k ≡ false → statusByte bridge (k + 1) ≡ false → statusByte bridge (k + 2) ≡ false
+      → statusByte bridge (k + 3) ≡ false → dwordAt p k ≡ dwordAt q k
   dword-same k c0 c1 c2 c3 = rw (byte-same k c0, byte-same (k + 1) c1, byte-same (k + 2) c2, byte-same (k + 3) c3)
 
--- a bridge's claims read no status bits
-pub bridge-same : (n : Node) (p q : List ℕ) → SameBytes n p q → n .kind ≡ Bridge → bridgeOf p ≡ bridgeOf q
+-- a bridge's claims read no status bits, whatever its options
+pub bridge-same : (o : Options) (n : Node) (p q : List ℕ) → SameBytes n p q → isBridge (n .kind) ≡ true → bridgeOf o p ≡ bridgeOf o q
 unfolding bridgeOf windowsOf
-bridge-same n p q s is =
-    let byte : (k : ℕ) → statusByte Bridge k ≡ false → getD p k 0 ≡ getD q k 0 = byte-same n p q s Bridge is in
-    let word = word-same n p q s Bridge is in
-    let dword = dword-same n p q s Bridge is in
+bridge-same o n p q s is =
+    let byte : (k : ℕ) → statusByte true k ≡ false → getD p k 0 ≡ getD q k 0 = byte-same n p q s true is in
+    let word = word-same n p q s true is in
+    let dword = dword-same n p q s true is in
     simp (
       byte COMMAND refl,
       byte SECONDARY-BUS refl,
@@ -95,24 +96,24 @@ bridge-same n p q s is =
     )
 
 -- nor do a device's areas
-area-same : (n : Node) (p q : List ℕ) → SameBytes n p q → n .kind ≡ Device → (kind e r : ℕ)
+area-same : (n : Node) (p q : List ℕ) → SameBytes n p q → isBridge (n .kind) ≡ false → (kind e r : ℕ)
     → areaOf p kind e r ≡ areaOf q kind e r
 unfolding areaOf
 area-same n p q s is kind e r =
     rw (dword (regionRegister r) (omega arith), dword (regionRegister r + 4) (omega arith))
   where
-    far : (k : ℕ) → 7 < k → statusByte Device k ≡ false
+    far : (k : ℕ) → 7 < k → statusByte false k ≡ false
     far k h = rw (ne-eqb k 7 (omega arith))
 
     dword : (k : ℕ) → 7 < k → dwordAt p k ≡ dwordAt q k
     dword k h =
-        dword-same n p q s Device is k (far k h) (far (k + 1) (omega arith)) (far (k + 2) (omega arith)) (far (k + 3) (omega arith))
+        dword-same n p q s false is k (far k h) (far (k + 1) (omega arith)) (far (k + 2) (omega arith)) (far (k + 3) (omega arith))
 
 -- nor all of its claims
-pub device-same : (n : Node) (p q : List ℕ) → SameBytes n p q → n .kind ≡ Device → deviceOf n p ≡ deviceOf n q
+pub device-same : (n : Node) (p q : List ℕ) → SameBytes n p q → isBridge (n .kind) ≡ false → deviceOf n p ≡ deviceOf n q
 unfolding deviceOf
 device-same n p q s is =
-    let c : getD p COMMAND 0 ≡ getD q COMMAND 0 = byte-same n p q s Device is COMMAND refl in
+    let c : getD p COMMAND 0 ≡ getD q COMMAND 0 = byte-same n p q s false is COMMAND refl in
     let area : (r : ℕ) → areaIn n p r ≡ areaIn n q r = λ r. area-same n p q s is (regionIn n r .kind) (regionIn n r .exponent) r in
     rw (c, area 0, area 1, area 2)
 

@@ -9,6 +9,7 @@ use lib.Dec.{leb, ltb}
 use lib.Pow.{pow-pos}
 use borrow.Author.Tests.{le-leb, lt-leb, lt-ltb, le-ltb, leb-true, leb-false, ltb-true, ltb-false}
 use Rattle.rack.specs.laws.Bools.{tested, both}
+use Rattle.register_header.specs.declared.Options.{Options}
 use Rattle.register_header.specs.definitions.PciRegs.{IO-BASE, IO-LIMIT, IO-BASE-UPPER16, IO-LIMIT-UPPER16}
 use Rattle.rack.specs.declared.Range.{Range}
 use Rattle.claim_window.specs.definitions.Range.{within, isEmpty, window}
@@ -83,12 +84,13 @@ not-below : (a b : ℕ) → not (ltb a b && true) ≡ leb b a
 not-below a b =
     tested (leb b a) (λ q. rw (q, le-ltb a b (leb-true b a q))) (λ q. rw (q, lt-ltb a b (leb-false b a q)))
 
-module _ (part : List ℕ) (h : ioGranule part IO-BASE IO-BASE-UPPER16 ≤ ioGranule part IO-LIMIT IO-LIMIT-UPPER16) where
+module _ (o : Options) (part : List ℕ)
+    (h : ioGranule (o .io32) part IO-BASE IO-BASE-UPPER16 ≤ ioGranule (o .io32) part IO-LIMIT IO-LIMIT-UPPER16) where
   base : ℕ
-  base = ioGranule part IO-BASE IO-BASE-UPPER16
+  base = ioGranule (o .io32) part IO-BASE IO-BASE-UPPER16
 
   limit : ℕ
-  limit = ioGranule part IO-LIMIT IO-LIMIT-UPPER16
+  limit = ioGranule (o .io32) part IO-LIMIT IO-LIMIT-UPPER16
 
   first-bits : base * 2 ^ 12 / 256 % 4 ≡ 0
   first-bits = omega arith
@@ -97,17 +99,17 @@ module _ (part : List ℕ) (h : ioGranule part IO-BASE IO-BASE-UPPER16 ≤ ioGra
   last-bits = omega arith
 
   -- ISA never cuts out the first address of the I/O window
-  pub io-first : inIo (windowsOf part) (windowsOf part .io .first) ≡ true
+  pub io-first : inIo (windowsOf o part) (windowsOf o part .io .first) ≡ true
   unfolding windowsOf base
   io-first =
-      rw (window-first 12 base (ioGranule part IO-LIMIT IO-LIMIT-UPPER16) h, first-bits)
-      (not-cut (windowsOf part .isa) (ltb (base * 2 ^ 12) 0x10000))
+      rw (window-first 12 base (ioGranule (o .io32) part IO-LIMIT IO-LIMIT-UPPER16) h, first-bits)
+      (not-cut (windowsOf o part .isa) (ltb (base * 2 ^ 12) 0x10000))
 
   -- with ISA on its last is in exactly where it is at or above 10000h
-  pub io-last : windowsOf part .isa ≡ true → inIo (windowsOf part) (windowsOf part .io .last) ≡ leb 0x10000 (windowsOf part .io .last)
+  pub io-last : windowsOf o part .isa ≡ true → inIo (windowsOf o part) (windowsOf o part .io .last) ≡ leb 0x10000 (windowsOf o part .io .last)
   unfolding windowsOf limit
   io-last on =
-      rw (window-last 12 (ioGranule part IO-BASE IO-BASE-UPPER16) limit h, on, last-bits)
+      rw (window-last 12 (ioGranule (o .io32) part IO-BASE IO-BASE-UPPER16) limit h, on, last-bits)
       (not-below (limit * 2 ^ 12 + (2 ^ 12 - 1)) 0x10000)
 
 module _ (r : Range) where

@@ -1,14 +1,15 @@
--- Document 01, 'Windows and racks to prove': one table of the definitions, and one theorem over it.
+-- Document 01, 'Windows and racks to prove', and the same of older bridges: one table of the definitions, and one theorem over it.
 use mathlib.Core.Bool.{Bool, true, false, not, _&&_, cond}
 use mathlib.Core.List.{List, [], _∷_, _++_}
 use Prim.Native.Nat.{ℕ, _+_, _-_, _*_, _/_, _%_}
 use lib.Dec.{eqb}
 use lib.ListN.{length, set}
 use Rattle.rack.specs.declared.Kind.{Kind}
-use Rattle.rack.specs.declared.Kind.the-variants.{Device, Bridge}
+use Rattle.rack.specs.declared.Kind.the-variants.{Device, Bridge, OlderBridge}
 use Rattle.rack.specs.declared.Region.{Region}
 use Rattle.rack.specs.declared.Node.{Node}
 use Rattle.rack.specs.definitions.Node.{isBridge, noRegion, noNode}
+use Rattle.register_header.specs.definitions.Options.{optionsOf}
 use Rattle.register_header.specs.definitions.PciRegs.{COMMAND, STATUS, BASE-ADDRESS}
 use Rattle.register_header.specs.definitions.Register.{readRegister, writeRegister}
 use Rattle.register_header.specs.definitions.Sizing.{readBack, sizePart}
@@ -28,6 +29,7 @@ use Rattle.check_search.specs.declared.Report.{Report}
 use Rattle.check_search.specs.declared.Report.the-variants.{Pass, Fault}
 use Rattle.check_search.specs.definitions.Report.{reportNumber, reportValues}
 use Rattle.check_search.specs.definitions.Check.{check}
+use Rattle.claim_window.specs.declared.Windows.{Windows}
 use Rattle.claim_window.specs.definitions.Window.{windowsOf}
 use Rattle.claim_window.specs.definitions.Inside.{inMemory, inPrefetchable, insideIo}
 use Prim.Native.String.{String}
@@ -54,10 +56,12 @@ pub data Fitted : Type 0 where
 pub data Row : Type 0 where
   -- a region's kind and exponent; what its register reads back after all ones, and its size
   sizes : ℕ → ℕ → ℕ → ℕ → Row
-  -- a window of a bridge; registers written over a bridge at reset; addresses that are in it, and addresses that are not
-  holds-of : Window → List Poke → List ℕ → List ℕ → Row
+  -- a kind of bridge and a window; registers written over it at reset; addresses that are in it, and addresses that are not
+  holds-of : Kind → Window → List Poke → List ℕ → List ℕ → Row
   -- registers written over a bridge at reset that leave a window without an address
-  none-in : Window → List Poke → Row
+  none-in : Kind → Window → List Poke → Row
+  -- a header kind and a register; what it reads after all ones were written at reset
+  reads : Kind → ℕ → ℕ → Row
   -- registers written over a bridge on the root bus; a bus number that it takes across as Type 1
   crosses : List Poke → ℕ → Row
   -- a header kind; a status, what is written to it, and the status then
@@ -92,14 +96,14 @@ abbrev pub put : Node → List Poke → List ℕ
 put n [] = resetPart n
 put n (byte at v ∷ ps) = set (put n ps) at v
 
--- a bridge so
-abbrev pub poked : List Poke → List ℕ
-poked ps = put (node Bridge noRegion) ps
+-- the windows of a bridge so
+abbrev pub windows : Kind → List Poke → Windows
+windows k ps = windowsOf (optionsOf k) (put (node k noRegion) ps)
 
-abbrev pub answer : Window → List ℕ → ℕ → Bool
-answer memory part a = inMemory (windowsOf part) a
-answer prefetchable part a = inPrefetchable (windowsOf part) a
-answer io part a = insideIo (windowsOf part) a
+abbrev pub answer : Window → Windows → ℕ → Bool
+answer memory ws a = inMemory ws a
+answer prefetchable ws a = inPrefetchable ws a
+answer io ws a = insideIo ws a
 
 -- a window's number, by which its ends are asked for
 abbrev pub number : Window → ℕ
@@ -108,11 +112,11 @@ number prefetchable = 1
 number io = 2
 
 -- every address of a list has the answer
-abbrev pub each : Window → List ℕ → Bool → List ℕ → Bool
-each w part want [] = true
-each w part want (a ∷ rest) = cond want (answer w part a) (not (answer w part a)) && each w part want rest
+abbrev pub each : Window → Windows → Bool → List ℕ → Bool
+each w ws want [] = true
+each w ws want (a ∷ rest) = cond want (answer w ws a) (not (answer w ws a)) && each w ws want rest
 
--- a rack of that bridge alone, and a configuration read of a bus number
+-- a rack of a bridge alone, and a configuration read of a bus number
 abbrev pub alone : Tree
 alone = treeWith empty (λ i. node Bridge noRegion) 1
 
@@ -167,9 +171,10 @@ abbrev pub holds : Row → Bool
 holds (sizes kind e seen size) =
     eqb (readBack (device kind e) (resetPart (device kind e)) BASE-ADDRESS) seen
     && eqb (sizePart (device kind e) (resetPart (device kind e)) kind BASE-ADDRESS) size
-holds (holds-of w ps ins outs) = each w (poked ps) true ins && each w (poked ps) false outs
-holds (none-in w ps) = isEmpty (windowIn (windowsOf (poked ps)) (number w))
-holds (crosses ps bus) = asType1 (poked ps) bus
+holds (holds-of k w ps ins outs) = each w (windows k ps) true ins && each w (windows k ps) false outs
+holds (none-in k w ps) = isEmpty (windowIn (windows k ps) (number w))
+holds (reads k register seen) = eqb (readBack (node k noRegion) (resetPart (node k noRegion)) register) seen
+holds (crosses ps bus) = asType1 (put (node Bridge noRegion) ps) bus
 holds (clears k status put after) = eqb (statusAfter (node k noRegion) status put) after
 holds (checks fs r text) =
     eqb (rackRefusal (rackOf fs)) 0 && eqb (imageRefusal (rackOf fs) (imagesOf fs)) 0
@@ -194,25 +199,25 @@ three = two ++ (fitted (nodeOn Device 0 1 noRegion) [] ∷ [])
 abbrev pub rows : List Row
 rows =
     -- 1: 'I/O base and limit 21h: 2000h, 2FFFh in; 3000h out'
-    holds-of io (byte 0x1c 0x21 ∷ byte 0x1d 0x21 ∷ []) (0x2000 ∷ 0x2FFF ∷ []) (0x3000 ∷ [])
+    holds-of Bridge io (byte 0x1c 0x21 ∷ byte 0x1d 0x21 ∷ []) (0x2000 ∷ 0x2FFF ∷ []) (0x3000 ∷ [])
     -- 2: 'ISA too: 20FFh, 2400h in; 2100h out'
-    ∷ holds-of io (byte 0x1c 0x21 ∷ byte 0x1d 0x21 ∷ byte 0x3e 0x04 ∷ []) (0x20FF ∷ 0x2400 ∷ []) (0x2100 ∷ [])
+    ∷ holds-of Bridge io (byte 0x1c 0x21 ∷ byte 0x1d 0x21 ∷ byte 0x3e 0x04 ∷ []) (0x20FF ∷ 0x2400 ∷ []) (0x2100 ∷ [])
     -- 3: 'Upper I/O 0001h too: 12100h in'
-    ∷ holds-of io (byte 0x1c 0x21 ∷ byte 0x1d 0x21 ∷ byte 0x3e 0x04 ∷ byte 0x30 0x01 ∷ byte 0x32 0x01 ∷ []) (0x12100 ∷ []) []
+    ∷ holds-of Bridge io (byte 0x1c 0x21 ∷ byte 0x1d 0x21 ∷ byte 0x3e 0x04 ∷ byte 0x30 0x01 ∷ byte 0x32 0x01 ∷ []) (0x12100 ∷ []) []
     -- 4: 'VGA on, ISA off, I/O base F1h and limit 01h (empty), upper registers 0: 3BBh, 3C0h, 3DFh, 7B0h in; 3BCh, 3E0h out'
-    ∷ holds-of io (byte 0x1c 0xf1 ∷ byte 0x1d 0x01 ∷ byte 0x3e 0x08 ∷ []) (0x3BB ∷ 0x3C0 ∷ 0x3DF ∷ 0x7B0 ∷ []) (0x3BC ∷ 0x3E0 ∷ [])
+    ∷ holds-of Bridge io (byte 0x1c 0xf1 ∷ byte 0x1d 0x01 ∷ byte 0x3e 0x08 ∷ []) (0x3BB ∷ 0x3C0 ∷ 0x3DF ∷ 0x7B0 ∷ []) (0x3BC ∷ 0x3E0 ∷ [])
     -- 4: '(empty)': VGA addresses are outside base and limit
-    ∷ none-in io (byte 0x1c 0xf1 ∷ byte 0x1d 0x01 ∷ byte 0x3e 0x08 ∷ [])
+    ∷ none-in Bridge io (byte 0x1c 0xf1 ∷ byte 0x1d 0x01 ∷ byte 0x3e 0x08 ∷ [])
     -- 4: 'with bit 4, 7B0h out'
-    ∷ holds-of io (byte 0x1c 0xf1 ∷ byte 0x1d 0x01 ∷ byte 0x3e 0x18 ∷ []) (0x3BB ∷ 0x3C0 ∷ 0x3DF ∷ []) (0x7B0 ∷ 0x3BC ∷ 0x3E0 ∷ [])
+    ∷ holds-of Bridge io (byte 0x1c 0xf1 ∷ byte 0x1d 0x01 ∷ byte 0x3e 0x18 ∷ []) (0x3BB ∷ 0x3C0 ∷ 0x3DF ∷ []) (0x7B0 ∷ 0x3BC ∷ 0x3E0 ∷ [])
     -- 5: 'Memory 8000h, 8000h: 80000000h, 800FFFFFh in; 7FFFFFFFh, 80100000h out'
-    ∷ holds-of memory (byte 0x21 0x80 ∷ byte 0x23 0x80 ∷ []) (0x80000000 ∷ 0x800FFFFF ∷ []) (0x7FFFFFFF ∷ 0x80100000 ∷ [])
+    ∷ holds-of Bridge memory (byte 0x21 0x80 ∷ byte 0x23 0x80 ∷ []) (0x80000000 ∷ 0x800FFFFF ∷ []) (0x7FFFFFFF ∷ 0x80100000 ∷ [])
     -- 6: 'Memory 8010h, 8000h: empty'
-    ∷ holds-of memory (byte 0x20 0x10 ∷ byte 0x21 0x80 ∷ byte 0x23 0x80 ∷ []) []
+    ∷ holds-of Bridge memory (byte 0x20 0x10 ∷ byte 0x21 0x80 ∷ byte 0x23 0x80 ∷ []) []
     (0x7FFFFFFF ∷ 0x80000000 ∷ 0x800FFFFF ∷ 0x80100000 ∷ 0x801FFFFF ∷ [])
-    ∷ none-in memory (byte 0x20 0x10 ∷ byte 0x21 0x80 ∷ byte 0x23 0x80 ∷ [])
+    ∷ none-in Bridge memory (byte 0x20 0x10 ∷ byte 0x21 0x80 ∷ byte 0x23 0x80 ∷ [])
     -- 7: 'Prefetchable 0001h, upper 1, both: 100000000h in, 100100000h out'
-    ∷ holds-of prefetchable (byte 0x24 0x01 ∷ byte 0x26 0x01 ∷ byte 0x28 0x01 ∷ byte 0x2c 0x01 ∷ []) (0x100000000 ∷ []) (0x100100000 ∷ [])
+    ∷ holds-of Bridge prefetchable (byte 0x24 0x01 ∷ byte 0x26 0x01 ∷ byte 0x28 0x01 ∷ byte 0x2c 0x01 ∷ []) (0x100000000 ∷ []) (0x100100000 ∷ [])
     ∷ sizes 2 12 0xfffff000 0x1000  -- 8: '32-bit, e = 12: read back FFFFF000h, size 1000h'
     ∷ clears Bridge 0xa000 0x2000 0x8000  -- 9: 'Status A000h, written 2000h: 8000h', of a bridge
     ∷ clears Device 0xa000 0x2000 0x8000  -- 9, of a device
@@ -221,4 +226,22 @@ rows =
     ∷ checks three (Fault 0 Memory 0x90000000 2 0 1) "1 fault 0 memory 0000000090000000 2 0 1\n"
     -- 12: 'The same without device 2: pass'
     ∷ checks two Pass "1 pass\n"
+    -- 02, E11: 'I/O base and limit reset to 00 with 16-bit I/O'
+    ∷ holds-of OlderBridge io [] (0x0 ∷ 0xFFF ∷ []) (0x1000 ∷ 0x10000 ∷ [])
+    -- 'I/O at 10000h or above is outside the window', whatever 30h to 33h hold; of a bridge it is in
+    ∷ holds-of OlderBridge io (byte 0x1c 0x20 ∷ byte 0x1d 0x20 ∷ byte 0x30 0x01 ∷ byte 0x32 0x01 ∷ []) (0x2000 ∷ 0x2FFF ∷ []) (0x3000 ∷ 0x12000 ∷ [])
+    ∷ holds-of Bridge io (byte 0x1c 0x21 ∷ byte 0x1d 0x21 ∷ byte 0x30 0x01 ∷ byte 0x32 0x01 ∷ []) (0x12000 ∷ 0x12FFF ∷ []) (0x2000 ∷ 0x13000 ∷ [])
+    -- 'prefetchable base and limit reset to 0000h', and below 4 GiB whatever 28h to 2Fh hold
+    ∷ holds-of OlderBridge prefetchable [] (0x0 ∷ 0xFFFFF ∷ []) (0x100000 ∷ [])
+    ∷ holds-of OlderBridge prefetchable (byte 0x28 0x01 ∷ byte 0x2c 0x01 ∷ []) (0x0 ∷ 0xFFFFF ∷ []) (0x100000 ∷ 0x100000000 ∷ [])
+    -- 'VGA 16-bit decode .. is fixed 0': 7B0h is in, bit 4 or not
+    ∷ holds-of OlderBridge io (byte 0x1c 0xf0 ∷ byte 0x3e 0x18 ∷ []) (0x3BB ∷ 0x3C0 ∷ 0x3DF ∷ 0x7B0 ∷ []) (0x3BC ∷ 0x3E0 ∷ 0x103B0 ∷ [])
+    -- every option's register, written and read back: of a bridge, and of an older one
+    ∷ reads Bridge 0x1c 0x0000f1f1 ∷ reads OlderBridge 0x1c 0x0000f0f0
+    ∷ reads Bridge 0x24 0xfff1fff1 ∷ reads OlderBridge 0x24 0xfff0fff0
+    ∷ reads Bridge 0x28 0xffffffff ∷ reads OlderBridge 0x28 0x00000000
+    ∷ reads Bridge 0x2c 0xffffffff ∷ reads OlderBridge 0x2c 0x00000000
+    ∷ reads Bridge 0x30 0xffffffff ∷ reads OlderBridge 0x30 0x00000000
+    ∷ reads Bridge 0x3c 0x003f00ff ∷ reads OlderBridge 0x3c 0x002f00ff
+    ∷ clears OlderBridge 0xa000 0x2000 0x8000  -- 9, of an older bridge
     ∷ []

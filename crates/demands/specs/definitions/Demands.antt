@@ -147,7 +147,8 @@ pub record Demand1 : Type 0 where
 --
 -- Each contract is an equation between what a function gives, with both images at exit, and a definition:
 --
---   register_header  register::read_register        Register.readRegister
+--   register_header  edition::options_of            Options.optionsOf
+--                    register::read_register        Register.readRegister
 --                    register::write_register       Register.writeRegister
 --                    status::set_status             Register.setStatus
 --   register_image   image::view                    Image.view
@@ -182,6 +183,9 @@ pub record Demand1 : Type 0 where
 -- more. In a passed rack, with the registers it passed with, status bits aside, every accepted configuration, memory or I/O access,
 -- whichever party starts it, is never driven, ends unclaimed, or ends at its one owner, and never in a clash. The crossings carried in
 -- its answer are at most the depth of the starting bus plus the greatest depth in the rack.'
+
+-- 02, E11: 'A rack that mixes them is checked and routed under the same guarantee as before': a node of these racks is a device, a bridge
+-- or an older bridge.
 
 -- over the calls on a decoded rack, run_check and run_event
 pub record Checked3 (rack : Rack) (im : Images) : Type 0 where

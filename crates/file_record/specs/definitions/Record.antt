@@ -5,10 +5,9 @@ use mathlib.Core.List.{List, [], _∷_}
 use lib.Dec.{ltb, eqb}
 use lib.ListN.{length, getD}
 use Rattle.rack.specs.declared.Kind.{Kind}
-use Rattle.rack.specs.declared.Kind.the-variants.{Bridge, Device}
 use Rattle.rack.specs.declared.Region.{Region}
 use Rattle.rack.specs.declared.Node.{Node}
-use Rattle.rack.specs.definitions.Node.{noRegion}
+use Rattle.rack.specs.definitions.Node.{kindFrom, isBridge, noRegion}
 use Rattle.rack.specs.declared.Range.{Range}
 use Rattle.file_record.specs.declared.Class.{Class}
 use Rattle.file_record.specs.declared.Class.the-variants as class
@@ -26,11 +25,11 @@ abbrev pub noForm : Form
 noForm = form class.Unknown 0
 
 -- 01: '1 host (16 bytes)', '2 bridge (6)', '3 device (12)', '4 configuration write (8)', '5 configuration read (3)', '6 memory
--- access (10)', '7 I/O access (6)', '8 check (0)'; 'Kinds 1 to 3 are rack records, 4 to 8 events'
+-- access (10)', '7 I/O access (6)', '8 check (0)'; 'Kinds 1 to 3 are rack records, 4 to 8 events'. 02, E11: 'Kind 13 has kind 2's body'
 abbrev pub forms : List Form
 forms =
     noForm ∷ form class.Host 16 ∷ form class.Node 6 ∷ form class.Node 12 ∷ form class.Event 8 ∷ form class.Event 3
-    ∷ form class.Event 10 ∷ form class.Event 6 ∷ form class.Event 0 ∷ []
+    ∷ form class.Event 10 ∷ form class.Event 6 ∷ form class.Event 0 ∷ noForm ∷ noForm ∷ noForm ∷ noForm ∷ form class.Node 6 ∷ []
 
 unfoldable pub formOf : ℕ → Form
 formOf kind = getD forms kind noForm
@@ -55,7 +54,7 @@ isA k c = eqb (classNumber k) (classNumber c)
 abbrev pub isRack : Class → Bool
 isRack c = isA class.Host c || isA class.Node c
 
--- 2: 'The kind is not 1 to 8'; without events, in the rack records of a C call, 'an event kind there being 2'
+-- 2: 'The kind is not 1 to 8'; 02, E11: 'Kind 13 becomes known to refusal 2'; without events, in the rack records of a C call, 'an event kind there being 2'
 abbrev pub isKnown : Bool → Class → Bool
 isKnown events c = isRack c || (events && isA class.Event c)
 
@@ -71,6 +70,9 @@ hostIn b o = record { first = qwordIn b (o + 1); last = qwordIn b (o + 9) }
 abbrev pub regionFrom : List ℕ → ℕ → Region
 regionFrom b o = record { kind = byteIn b o; exponent = byteIn b (o + 1) }
 
+abbrev pub kindIn : List ℕ → ℕ → Kind
+kindIn b o = kindFrom (byteIn b o)
+
 abbrev pub nodeOf : Kind → List ℕ → ℕ → Region → Region → Region → Node
 nodeOf k b o r s u =
     record {
@@ -82,8 +84,8 @@ nodeOf k b o r s u =
       regions = r ∷ s ∷ u ∷ [];
     }
 
--- 01: '2 bridge (6): parent, device number, vendor ID (2), device ID (2)'; a bridge has no regions
+-- 01: '2 bridge (6): parent, device number, vendor ID (2), device ID (2)'; a bridge of either kind has no regions
 unfoldable pub nodeIn : List ℕ → ℕ → Node
 nodeIn b o =
-    cond (eqb (byteIn b o) 2) (nodeOf Bridge b o noRegion noRegion noRegion)
-    (nodeOf Device b o (regionFrom b (o + 7)) (regionFrom b (o + 9)) (regionFrom b (o + 11)))
+    cond (isBridge (kindIn b o)) (nodeOf (kindIn b o) b o noRegion noRegion noRegion)
+    (nodeOf (kindIn b o) b o (regionFrom b (o + 7)) (regionFrom b (o + 9)) (regionFrom b (o + 11)))

@@ -11,8 +11,8 @@ use Rattle.rack.specs.laws.Bools.{both}
 use Rattle.file_record.specs.declared.Class.the-variants as class
 use Rattle.file_record.specs.definitions.Record.{Form, noForm, forms, formOf, sizeOf, isA}
 
--- a kind past 8 has no form
-pub no-form : (kind : ℕ) → 9 ≤ kind → noForm ≡ formOf kind
+-- a kind past 13 has no form
+pub no-form : (kind : ℕ) → 14 ≤ kind → noForm ≡ formOf kind
 unfolding formOf
 no-form kind h = sym (List·getD-eq-default forms noForm h)
 

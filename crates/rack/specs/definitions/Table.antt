@@ -4,13 +4,11 @@ use mathlib.Core.Path.{_≡_}
 use Prim.Native.Nat.{ℕ, _+_, _*_, _/_, _%_, min}
 use mathlib.Core.Bool.{cond}
 use mathlib.Core.List.{List, [], _∷_}
-use lib.Dec.{ltb, eqb}
+use lib.Dec.{ltb}
 use lib.ListN.{getD, set}
-use Rattle.rack.specs.declared.Kind.{Kind}
-use Rattle.rack.specs.declared.Kind.the-variants.{Bridge, Device}
 use Rattle.rack.specs.declared.Region.{Region}
 use Rattle.rack.specs.declared.Node.{Node}
-use Rattle.rack.specs.definitions.Node.{kindNumber, regionIn}
+use Rattle.rack.specs.definitions.Node.{kindNumber, kindFrom, regionIn}
 use Rattle.rack.specs.definitions.Tree.{Tree}
 
 -- a word holds eight bytes, lowest first
@@ -40,9 +38,6 @@ abbrev pub End : ℕ → ℕ → ℕ → Type 0
 End count deepest w = Bytes w count deepest 0 0 0 0 0 0
 
 -- the node that two words hold
-abbrev pub kindFrom : ℕ → Kind
-kindFrom n = cond (eqb n 2) Bridge Device
-
 abbrev pub regionOf : ℕ → ℕ → Region
 regionOf k e = record { kind = k; exponent = e }
 

@@ -7,7 +7,7 @@ use lib.Dec.{eqb, ltb}
 use lib.ListN.{getD, set}
 use Rattle.rack.specs.declared.Node.{Node}
 use Rattle.rack.specs.declared.Kind.{Kind}
-use Rattle.rack.specs.declared.Kind.the-variants.{Bridge, Device}
+use Rattle.rack.specs.definitions.Node.{isBridge}
 use Rattle.register_header.specs.declared.Side.{Side}
 use Rattle.register_header.specs.declared.Side.the-variants.{Primary, Secondary}
 use Rattle.register_header.specs.declared.StatusBit.{StatusBit}
@@ -53,9 +53,8 @@ writeRegister n part register enables put = cond (ltb register 64) (writeDword n
 
 -- 01: 'status on the primary, secondary status below; a device its status': the upper byte of that register
 abbrev pub statusAt : Kind → Side → ℕ
-statusAt Bridge Primary = STATUS + 1
-statusAt Bridge Secondary = SEC-STATUS + 1
-statusAt Device side = STATUS + 1
+statusAt k Primary = STATUS + 1
+statusAt k Secondary = cond (isBridge k) (SEC-STATUS + 1) (STATUS + 1)
 
 -- bits 11, 12 and 13 of a status register, in its upper byte
 abbrev pub statusMask : StatusBit → ℕ

@@ -3,7 +3,7 @@
 use Prim.Native.Nat.{ℕ}
 use mathlib.Core.List.{List, [], _∷_}
 use Rattle.rack.specs.declared.Kind.{Kind}
-use Rattle.rack.specs.declared.Kind.the-variants.{Bridge, Device}
+use Rattle.rack.specs.declared.Kind.the-variants.{Bridge, OlderBridge, Device}
 
 -- a bridge's writable bits
 abbrev pub bridgeWrite : List ℕ
@@ -25,7 +25,7 @@ bridgeWrite =
     ∷ 0x00 ∷ 0x00 ∷ 0x00 ∷ 0x00  -- 38h ROM_ADDRESS1
     ∷ 0xff ∷ 0x00 ∷ 0x3f ∷ 0x00 ∷ []  -- 3Ch INTERRUPT_LINE, INTERRUPT_PIN, BRIDGE_CONTROL
 
--- a bridge's bits cleared by writing 1: both statuses, F900h
+-- a bridge's bits cleared by writing 1, of either kind: both statuses, F900h
 abbrev pub bridgeClear : List ℕ
 bridgeClear =
     0x00 ∷ 0x00 ∷ 0x00 ∷ 0x00  -- 00h VENDOR_ID, DEVICE_ID
@@ -58,6 +58,46 @@ bridgeReset =
     ∷ 0x01 ∷ 0x01 ∷ 0x00 ∷ 0x00  -- 1Ch IO_BASE, IO_LIMIT, SEC_STATUS
     ∷ 0x00 ∷ 0x00 ∷ 0x00 ∷ 0x00  -- 20h MEMORY_BASE, MEMORY_LIMIT
     ∷ 0x01 ∷ 0x00 ∷ 0x01 ∷ 0x00  -- 24h PREF_MEMORY_BASE, PREF_MEMORY_LIMIT
+    ∷ 0x00 ∷ 0x00 ∷ 0x00 ∷ 0x00  -- 28h PREF_BASE_UPPER32
+    ∷ 0x00 ∷ 0x00 ∷ 0x00 ∷ 0x00  -- 2Ch PREF_LIMIT_UPPER32
+    ∷ 0x00 ∷ 0x00 ∷ 0x00 ∷ 0x00  -- 30h IO_BASE_UPPER16, IO_LIMIT_UPPER16
+    ∷ 0x00 ∷ 0x00 ∷ 0x00 ∷ 0x00  -- 34h CAPABILITY_LIST
+    ∷ 0x00 ∷ 0x00 ∷ 0x00 ∷ 0x00  -- 38h ROM_ADDRESS1
+    ∷ 0x00 ∷ 0x00 ∷ 0x00 ∷ 0x00 ∷ []  -- 3Ch INTERRUPT_LINE, INTERRUPT_PIN, BRIDGE_CONTROL
+
+-- an older bridge's writable bits. 02, E11: '30h to 33h are fixed 0', '28h to 2Fh are fixed 0', 'VGA 16-bit decode .. is fixed 0'
+abbrev pub olderBridgeWrite : List ℕ
+olderBridgeWrite =
+    0x00 ∷ 0x00 ∷ 0x00 ∷ 0x00  -- 00h VENDOR_ID, DEVICE_ID
+    ∷ 0x47 ∷ 0x01 ∷ 0x00 ∷ 0x00  -- 04h COMMAND, STATUS
+    ∷ 0x00 ∷ 0x00 ∷ 0x00 ∷ 0x00  -- 08h REVISION_ID, CLASS_PROG, CLASS_DEVICE
+    ∷ 0xff ∷ 0xff ∷ 0x00 ∷ 0x00  -- 0Ch CACHE_LINE_SIZE, LATENCY_TIMER, HEADER_TYPE, BIST
+    ∷ 0x00 ∷ 0x00 ∷ 0x00 ∷ 0x00  -- 10h BASE_ADDRESS_0
+    ∷ 0x00 ∷ 0x00 ∷ 0x00 ∷ 0x00  -- 14h BASE_ADDRESS_1
+    ∷ 0xff ∷ 0xff ∷ 0xff ∷ 0xff  -- 18h PRIMARY_BUS, SECONDARY_BUS, SUBORDINATE_BUS, SEC_LATENCY_TIMER
+    ∷ 0xf0 ∷ 0xf0 ∷ 0x00 ∷ 0x00  -- 1Ch IO_BASE, IO_LIMIT, SEC_STATUS
+    ∷ 0xf0 ∷ 0xff ∷ 0xf0 ∷ 0xff  -- 20h MEMORY_BASE, MEMORY_LIMIT
+    ∷ 0xf0 ∷ 0xff ∷ 0xf0 ∷ 0xff  -- 24h PREF_MEMORY_BASE, PREF_MEMORY_LIMIT
+    ∷ 0x00 ∷ 0x00 ∷ 0x00 ∷ 0x00  -- 28h PREF_BASE_UPPER32
+    ∷ 0x00 ∷ 0x00 ∷ 0x00 ∷ 0x00  -- 2Ch PREF_LIMIT_UPPER32
+    ∷ 0x00 ∷ 0x00 ∷ 0x00 ∷ 0x00  -- 30h IO_BASE_UPPER16, IO_LIMIT_UPPER16
+    ∷ 0x00 ∷ 0x00 ∷ 0x00 ∷ 0x00  -- 34h CAPABILITY_LIST
+    ∷ 0x00 ∷ 0x00 ∷ 0x00 ∷ 0x00  -- 38h ROM_ADDRESS1
+    ∷ 0xff ∷ 0x00 ∷ 0x2f ∷ 0x00 ∷ []  -- 3Ch INTERRUPT_LINE, INTERRUPT_PIN, BRIDGE_CONTROL
+
+-- an older bridge's reset values, its IDs aside. 02, E11: 'I/O base and limit reset to 00', 'prefetchable base and limit reset to 0000h'
+abbrev pub olderBridgeReset : List ℕ
+olderBridgeReset =
+    0x00 ∷ 0x00 ∷ 0x00 ∷ 0x00  -- 00h VENDOR_ID, DEVICE_ID
+    ∷ 0x00 ∷ 0x00 ∷ 0x00 ∷ 0x00  -- 04h COMMAND, STATUS
+    ∷ 0x00 ∷ 0x00 ∷ 0x04 ∷ 0x06  -- 08h REVISION_ID, CLASS_PROG, CLASS_DEVICE
+    ∷ 0x00 ∷ 0x00 ∷ 0x01 ∷ 0x00  -- 0Ch CACHE_LINE_SIZE, LATENCY_TIMER, HEADER_TYPE, BIST
+    ∷ 0x00 ∷ 0x00 ∷ 0x00 ∷ 0x00  -- 10h BASE_ADDRESS_0
+    ∷ 0x00 ∷ 0x00 ∷ 0x00 ∷ 0x00  -- 14h BASE_ADDRESS_1
+    ∷ 0x00 ∷ 0x00 ∷ 0x00 ∷ 0x00  -- 18h PRIMARY_BUS, SECONDARY_BUS, SUBORDINATE_BUS, SEC_LATENCY_TIMER
+    ∷ 0x00 ∷ 0x00 ∷ 0x00 ∷ 0x00  -- 1Ch IO_BASE, IO_LIMIT, SEC_STATUS
+    ∷ 0x00 ∷ 0x00 ∷ 0x00 ∷ 0x00  -- 20h MEMORY_BASE, MEMORY_LIMIT
+    ∷ 0x00 ∷ 0x00 ∷ 0x00 ∷ 0x00  -- 24h PREF_MEMORY_BASE, PREF_MEMORY_LIMIT
     ∷ 0x00 ∷ 0x00 ∷ 0x00 ∷ 0x00  -- 28h PREF_BASE_UPPER32
     ∷ 0x00 ∷ 0x00 ∷ 0x00 ∷ 0x00  -- 2Ch PREF_LIMIT_UPPER32
     ∷ 0x00 ∷ 0x00 ∷ 0x00 ∷ 0x00  -- 30h IO_BASE_UPPER16, IO_LIMIT_UPPER16
@@ -127,12 +167,15 @@ deviceReset =
 
 abbrev pub writeTable : Kind → List ℕ
 writeTable Bridge = bridgeWrite
+writeTable OlderBridge = olderBridgeWrite
 writeTable Device = deviceWrite
 
 abbrev pub clearTable : Kind → List ℕ
 clearTable Bridge = bridgeClear
+clearTable OlderBridge = bridgeClear
 clearTable Device = deviceClear
 
 abbrev pub resetTable : Kind → List ℕ
 resetTable Bridge = bridgeReset
+resetTable OlderBridge = olderBridgeReset
 resetTable Device = deviceReset

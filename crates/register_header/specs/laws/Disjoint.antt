@@ -1,19 +1,19 @@
 -- The write and clear masks never meet: one computed test over the tables, and with it the masks of every node.
 use mathlib.Core.Path.{_≡_, refl, sym, ap, _∙_}
 use mathlib.Core.Bool.{Bool, true, false, _&&_, cond, and-eq-true-iff}
-use Prim.Native.Nat.{ℕ, _<_, _≤_, min}
+use Prim.Native.Nat.{ℕ, _<_, min}
 use native.Mathlib.Nat.{mod-lt}
-use borrow.Author.Tests.{ltb-true, ltb-false, eqb-true}
+use borrow.Author.Tests.{ltb-true, eqb-true}
 use lib.Bits.{bitAnd, bitOr, and-zero-r}
 use lib.Dec.{ltb, eqb, lit<}
-use lib.ListN.{length, getD}
+use lib.ListN.{getD}
 use Rattle.rack.specs.declared.Kind.{Kind}
-use Rattle.rack.specs.declared.Kind.the-variants.{Bridge, Device}
+use Rattle.rack.specs.declared.Kind.the-variants.{Bridge, OlderBridge, Device}
 use Rattle.rack.specs.declared.Node.{Node}
 use Rattle.register_header.specs.laws.Bits.{bit, bit-and, bit-of-zero}
 use Rattle.register_header.specs.definitions.Tables.{writeTable, clearTable, resetTable}
 use Rattle.register_header.specs.definitions.Mask.{regionByte, inRegion, regionWrite, writeMask, clearMask}
-use Rattle.register_header.specs.laws.Every.{every, at, past}
+use Rattle.register_header.specs.laws.Every.{every, write-long, clear-long, reset-long, past, everywhere}
 
 -- an entry's two masks and its reset value are bytes of which no two have a common bit; in a device's regions no bit is cleared
 abbrev soundEntry : Bool → ℕ → ℕ → ℕ → Bool
@@ -49,9 +49,10 @@ sound region write clear reset e =
 abbrev test : Kind → ℕ → ℕ → Bool
 test kind at write = soundEntry (regionByte kind at) write (getD (clearTable kind) at 0) (getD (resetTable kind) at 0)
 
--- the test, computed over the tables of both header kinds
+-- the test, computed over the tables of every header kind
 passed : (kind : Kind) → every (test kind) 0 (writeTable kind) ≡ true
 passed Bridge = refl
+passed OlderBridge = refl
 passed Device = refl
 
 no-entry : (region : Bool) → soundEntry region 0 0 0 ≡ true
@@ -61,20 +62,12 @@ no-entry false = refl
 -- so every entry is sound; past the tables each reads 0
 pub entry : (kind : Kind) (at : ℕ)
     → Sound (regionByte kind at) (getD (writeTable kind) at 0) (getD (clearTable kind) at 0) (getD (resetTable kind) at 0)
-entry kind k = sound _ _ _ _ (held (ltb k 64) refl)
-  where
-    long : (kind : Kind) → length (writeTable kind) ≡ 64
-    long Bridge = refl
-    long Device = refl
+entry kind k =
+    sound _ _ _ _
+    (everywhere writeTable write-long kind (test kind) (passed kind)
+    (λ m h. rw (past clearTable clear-long kind m h, past resetTable reset-long kind m h) (no-entry (regionByte kind m))) k)
 
-    held : (b : Bool) → ltb k 64 ≡ b → test kind k (getD (writeTable kind) k 0) ≡ true
-    held true e = at (test kind) (writeTable kind) (passed kind) k (rw (long kind) (ltb-true k 64 e))
-    held false e =
-        let h : 64 ≤ k = ltb-false k 64 e in
-        rw (past writeTable refl refl kind k h, past clearTable refl refl kind k h, past resetTable refl refl kind k h)
-        (no-entry (regionByte kind k))
-
-cond-lt : (b : Bool) {x y m : ℕ} → x < m → y < m → cond b x y < m
+pub cond-lt : (b : Bool) {x y m : ℕ} → x < m → y < m → cond b x y < m
 cond-lt true hx hy = hx
 cond-lt false hx hy = hy
 

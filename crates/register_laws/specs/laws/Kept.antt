@@ -1,6 +1,6 @@
 -- Bits that a byte keeps: the fixed ones under a write, and those outside a mask that is set.
 use mathlib.Core.Path.{_≡_, refl, sym, ap, _∙_}
-use Prim.Native.Nat.{ℕ, _-_, _^_, _<_, min, max}
+use Prim.Native.Nat.{ℕ, zero, suc, _-_, _^_, _<_, min, max}
 use native.Mathlib.Nat.{lt-of-le-of-lt}
 use native.Mathlib.Omega.{arith}
 use lib.Bits.{bitAnd, bitOr, and-le-r, or-lt}
@@ -22,6 +22,20 @@ and-bits a b x k e = sym (bit-and a x k) ∙ ap (λ (y : ℕ). bit y k) e ∙ bi
 -- nothing shows under a mask of fixed bits where c is set
 hidden : (a b w c : ℕ) → c ≡ 1 → min a (1 - max w c) ≡ min b (1 - max w c)
 hidden a b w c e = omega arith
+
+-- a bit that the masks do not have is the reset value's, and where it has none either 0
+one-unused : (a r m x : ℕ) → a < 2 → min a (1 - m) ≡ min r (1 - m) → min x (max m r) ≡ 0 → min a x ≡ min 0 x
+one-unused a r m zero ha fixed none = least a
+  where
+    least : (b : ℕ) → min b 0 ≡ min 0 0
+    least b = omega arith
+one-unused a r m (suc x) ha fixed none = rw (zero-of ha fixed (meets x (max m r) none))
+  where
+    meets : (y z : ℕ) → min (suc y) z ≡ 0 → z ≡ 0
+    meets y z e = omega arith
+
+    zero-of : a < 2 → min a (1 - m) ≡ min r (1 - m) → max m r ≡ 0 → a ≡ 0
+    zero-of h f e = omega arith
 
 module _ (w c : ℕ) (hw : w < 2 ^ 8) (hc : c < 2 ^ 8) where
   fixed-bit : (k : ℕ) → k < 8 → bit (255 - bitOr w c) k ≡ 1 - max (bit w k) (bit c k)
@@ -55,6 +69,19 @@ module _ (w c : ℕ) (hw : w < 2 ^ 8) (hc : c < 2 ^ 8) where
           both-bits (λ (y : ℕ). bit c k ≡ y → G)
           (λ ec. let same : bit a k ≡ bit b k = omega (arith, bit-lt a k, bit-lt b k) in rw same)
           (hidden (bit a k) (bit b k) (bit w k) (bit c k)) (bit c k) (bit-lt c k) refl
+
+  -- bits that neither the masks nor the reset value have are 0 where the fixed bits are the reset value's
+  pub unused-zero : (a reset x : ℕ) → x < 2 ^ 8 → bitAnd x (bitOr (bitOr w c) reset) ≡ 0
+      → bitAnd a (255 - bitOr w c) ≡ bitAnd reset (255 - bitOr w c) → bitAnd a x ≡ 0
+  unused-zero a reset x hx unused e = and-ext a 0 x hx (λ k hk. at-bit k hk)
+    where
+      at-bit : (k : ℕ) → k < 8 → min (bit a k) (bit x k) ≡ min (bit 0 k) (bit x k)
+      at-bit k hk =
+          let fixed : min (bit a k) (1 - max (bit w k) (bit c k)) ≡ min (bit reset k) (1 - max (bit w k) (bit c k)) =
+          rw (fixed-bit k hk) at (and-bits a reset (255 - bitOr w c) k e) in
+          let none : min (bit x k) (max (max (bit w k) (bit c k)) (bit reset k)) ≡ 0 =
+          sym (bit-and x (bitOr (bitOr w c) reset) k ∙ rw (bit-or, bit-or)) ∙ ap (λ (y : ℕ). bit y k) unused ∙ bit-of-zero k in
+          one-unused (bit a k) (bit reset k) (max (bit w k) (bit c k)) (bit x k) (bit-lt a k) fixed none ∙ rw (bit-of-zero k)
 
 -- bits set outside x change nothing under x
 pub or-outside : (old m x : ℕ) → x < 2 ^ 8 → bitAnd m x ≡ 0 → bitAnd (bitOr old m) x ≡ bitAnd old x

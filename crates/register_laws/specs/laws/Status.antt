@@ -9,7 +9,7 @@ use lib.ListN.{length, getD}
 use lib.Seq.{getD-set-same, getD-set-other, set-out}
 use borrow.Author.Tests.{ltb-true, ltb-false, eqb-true, eqb-false}
 use Rattle.rack.specs.declared.Kind.{Kind}
-use Rattle.rack.specs.declared.Kind.the-variants.{Bridge, Device}
+use Rattle.rack.specs.declared.Kind.the-variants.{Bridge, OlderBridge, Device}
 use Rattle.rack.specs.declared.Node.{Node}
 use Rattle.register_header.specs.declared.Side.{Side}
 use Rattle.register_header.specs.declared.Side.the-variants.{Primary, Secondary}
@@ -26,7 +26,10 @@ use Rattle.register_laws.specs.laws.Kept.{narrow, or-outside}
 status-clear : (k : Kind) (side : Side) → getD (clearTable k) (statusAt k side) 0 ≡ 0xf9
 status-clear Bridge Primary = refl
 status-clear Bridge Secondary = refl
-status-clear Device side = refl
+status-clear OlderBridge Primary = refl
+status-clear OlderBridge Secondary = refl
+status-clear Device Primary = refl
+status-clear Device Secondary = refl
 
 -- and the three status bits are among them
 status-bits : (b : StatusBit) → bitAnd (statusMask b) (255 - 0xf9) ≡ 0

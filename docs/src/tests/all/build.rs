@@ -5,7 +5,7 @@ use std::io::Write;
 use std::process::{Command, Stdio};
 
 use rackcheck::machine::Machine;
-use rackcheck::rack::{Header, Node, Rack, Region};
+use rackcheck::rack::{Header, Node, Options, Rack, Region};
 
 /// A rack file under construction.
 #[derive(Clone, Debug, Default)]
@@ -18,9 +18,30 @@ pub fn only(kind: u8, e: u8) -> [(u8, u8); 3] {
     [(kind, e), (0, 0), (0, 0)]
 }
 
+/// Kinds of bridges that take turns in a rack: one edition alone, and both mixed.
+pub const EDITIONS: [[u8; 2]; 4] = [[2, 2], [2, 13], [13, 2], [13, 13]];
+
+/// Every set of options.
+pub fn all_options() -> Vec<Options> {
+    let bit = |set: u8, bit: u8| set >> bit & 1 == 1;
+    let options =
+        |set| Options { io_32: bit(set, 0), prefetchable_64: bit(set, 1), vga_16: bit(set, 2) };
+    (0..8).map(options).collect()
+}
+
+/// A bridge with these options.
+pub fn bridge_with(options: Options, parent: u8, device: u8) -> Node {
+    Node { parent, device, vendor_id: 0x1234, device_id: 0x0010, header: Header::Bridge(options) }
+}
+
 /// The node that [`File::bridge`] writes.
 pub fn bridge(parent: u8, device: u8) -> Node {
-    Node { parent, device, vendor_id: 0x1234, device_id: 0x0010, header: Header::Bridge }
+    bridge_with(Options::ALL, parent, device)
+}
+
+/// The node that [`File::older`] writes.
+pub fn older(parent: u8, device: u8) -> Node {
+    bridge_with(Options::NONE, parent, device)
 }
 
 /// The node that [`File::device`] writes.
@@ -44,16 +65,18 @@ impl File {
         File::empty().raw(&[1]).raw(&first.to_le_bytes()).raw(&last.to_le_bytes())
     }
 
-    /// 32 bridges: 16 on the root bus, 16 below bridge 0.
-    pub fn all_bridges() -> File {
-        let file = (0..16).fold(File::new(), |file, device| file.bridge(255, device));
-        (0..16).fold(file, |file, device| file.bridge(0, device))
+    /// 32 bridges whose kinds take turns: 16 on the root bus, 16 below bridge 0.
+    pub fn all_bridges(kinds: [u8; 2]) -> File {
+        let kind = |device: u8| kinds[usize::from(device % 2)];
+        let file = (0..16).fold(File::new(), |file, n| file.bridge_of(kind(n), 255, n));
+        (0..16).fold(file, |file, n| file.bridge_of(kind(n), 0, n))
     }
 
     /// 32 bridges and 64 devices: those of [`File::all_bridges`], and 16 devices on each
     /// bus of bridges 1 to 4.
-    pub fn full(regions: [(u8, u8); 3]) -> File {
-        (0..64).fold(File::all_bridges(), |file, n| file.device(1 + n / 16, n % 16, regions))
+    pub fn full(kinds: [u8; 2], regions: [(u8, u8); 3]) -> File {
+        let bridges = File::all_bridges(kinds);
+        (0..64).fold(bridges, |file, n| file.device(1 + n / 16, n % 16, regions))
     }
 
     pub fn raw(mut self, bytes: &[u8]) -> File {
@@ -62,7 +85,16 @@ impl File {
     }
 
     pub fn bridge(self, parent: u8, device: u8) -> File {
-        self.raw(&[2, parent, device, 0x34, 0x12, 0x10, 0x00])
+        self.bridge_of(2, parent, device)
+    }
+
+    /// An older bridge.
+    pub fn older(self, parent: u8, device: u8) -> File {
+        self.bridge_of(13, parent, device)
+    }
+
+    pub fn bridge_of(self, kind: u8, parent: u8, device: u8) -> File {
+        self.raw(&[kind, parent, device, 0x34, 0x12, 0x10, 0x00])
     }
 
     pub fn device(self, parent: u8, device: u8, regions: [(u8, u8); 3]) -> File {
@@ -145,14 +177,13 @@ impl File {
         let machine = self.machine();
         (machine.bridges().to_vec(), machine.devices().to_vec())
     }
+}
 
-    /// Status and, for a bridge, secondary status of a node after all events.
-    pub fn status(&self, node: u8) -> (u16, u16) {
-        let machine = self.machine();
-        let high = |register| (machine.read(node, register) >> 16) as u16;
-        let below = machine.rack().bridge(node).map_or(0, |_| high(0x1C));
-        (high(0x04), below)
-    }
+/// Status and, for a bridge, secondary status of a node.
+pub fn status(machine: &Machine, node: u8) -> (u16, u16) {
+    let high = |register| (machine.read(node, register) >> 16) as u16;
+    let below = machine.rack().bridge(node).map_or(0, |_| high(0x1C));
+    (high(0x04), below)
 }
 
 pub fn output(bytes: &[u8]) -> String {
@@ -183,13 +214,22 @@ pub fn hex(text: &str) -> Vec<u8> {
 
 /// Bridge 0 on the root bus, and below it device 1 with an I/O and a 64-bit region.
 pub fn one_of_each() -> File {
-    File::host(0x1000, 0x1FFF).bridge(255, 0).device(0, 1, [(1, 4), (3, 20), (0, 0)])
+    one_of_each_below(2)
 }
 
-/// The same with windows of all three kinds, and with both regions placed.
+/// The same with a bridge of that kind.
+pub fn one_of_each_below(kind: u8) -> File {
+    File::host(0x1000, 0x1FFF).bridge_of(kind, 255, 0).device(0, 1, [(1, 4), (3, 20), (0, 0)])
+}
+
+/// Windows of all three kinds, and both regions placed.
 pub fn one_of_each_placed() -> File {
-    one_of_each()
-        .put(0, 0, 0x18, 0x0001_0100)
+    placed(one_of_each())
+}
+
+/// These writes to the rack of [`one_of_each_below`].
+pub fn placed(file: File) -> File {
+    file.put(0, 0, 0x18, 0x0001_0100)
         .put(0, 0, 0x1C, 0x5030)
         .put(0, 0, 0x20, 0x4000_3000)
         .put(0, 0, 0x24, 0x7000_6000)
@@ -204,7 +244,7 @@ pub fn one_of_each_placed() -> File {
 /// A full rack at work, without a clash: every node has bits 0 to 2 of its command set,
 /// every bridge has windows of all three kinds and ISA, every device three regions.
 pub fn full_at_work() -> Machine {
-    let mut rack = File::full([(1, 4), (2, 12), (3, 20)]).rack();
+    let mut rack = File::full([2, 2], [(1, 4), (2, 12), (3, 20)]).rack();
     (rack.host_first, rack.host_last) = (0, 0x7FFF_FFFF);
     let mut machine = Machine::at_reset(rack).unwrap();
     for bridge in 0..32u8 {

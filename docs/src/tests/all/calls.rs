@@ -1,6 +1,9 @@
 //! Calls over a rack and two lent images, and over bytes.
 
-use crate::build::{bridge, device, one_of_each as rack, one_of_each_placed, File, NO_REGIONS};
+use crate::build::{
+    bridge, device, one_of_each as rack, one_of_each_below, one_of_each_placed, placed, File,
+    NO_REGIONS,
+};
 use rackcheck::answer::{Abort, Answer};
 use rackcheck::calls;
 use rackcheck::rack::{Event, Rack};
@@ -27,8 +30,9 @@ fn order_over_bytes() {
     assert_eq!(run(&rack().device(0, 2, [(1, 1); 3]).0, &[], &[], &[]), Err(10));
     assert_eq!(calls::check_of_bytes(&rack().check().0, &[], &[]), Err(2));
     // Then the event, before 11.
-    for kind in [0, 1, 2, 3, 9, 255] {
+    for kind in (0..=255).filter(|kind| !(4..=8).contains(kind)) {
         assert_eq!(run(&records, &[kind], &[], &[]), Err(2));
+        assert_eq!(run(&records, &[kind, 0, 0, 0, 0, 0, 0], &[], &[]), Err(2));
     }
     assert_eq!(run(&records, &[], &[], &[]), Err(2));
     for (kind, length) in [(4u8, 8), (5, 3), (6, 10), (7, 6), (8, 0)] {
@@ -46,6 +50,68 @@ fn order_over_bytes() {
     assert_eq!(run(&records, &odd, &spoilt, &d), Err(12));
     assert_eq!(run(&records, &odd, &b, &d), Err(13));
     assert_eq!(run(&records, &[7, 0, 0, 0, 0, 0, 0], &b, &d), Err(13));
+}
+
+/// The records of a C call know an older bridge; its event does not.
+#[test]
+fn an_older_bridge_over_bytes() {
+    let file = one_of_each_below(13);
+    let (records, (b, d)) = (file.clone().0, file.images());
+    let run = |event: &[u8], b: &[u8]| {
+        calls::event_of_bytes(&records, event, &mut b.to_vec(), &mut d.clone())
+    };
+    let io_base = Answer::Data { crossings: 0, data: 0 };
+    assert_eq!(run(&[5, 0, 0, 0x1C], &b), Ok(io_base));
+    assert_eq!(run(&[4, 0, 0, 0x28, 15, 1, 1, 1, 1], &b), Ok(Answer::Stored { crossings: 0 }));
+    assert_eq!(calls::check_of_bytes(&records, &b, &d), Ok(Answer::Pass));
+    assert_eq!(run(&file.clone().older(255, 1).0[37..], &b), Err(2));
+    // 3, 4 and 6 to 9 in the records; an event before it is 2.
+    let check = |file: File| calls::check_of_bytes(&file.0, &b, &d);
+    assert_eq!(check(file.clone().raw(&[13, 255, 1])), Err(3));
+    assert_eq!(check(File::empty().older(255, 0)), Err(4));
+    assert_eq!(check(file.clone().check().older(255, 1)), Err(2));
+    assert_eq!(check(File::all_bridges([13, 2]).older(1, 0)), Err(6));
+    assert_eq!(check(file.clone().older(1, 0)), Err(7));
+    assert_eq!(check(file.clone().older(0, 16)), Err(8));
+    assert_eq!(check(file.clone().older(0, 1)), Err(9));
+    // 11, 12 and 13: of these bits only a newer bridge's image may hold any; a bridge is no
+    // initiator.
+    assert_eq!(run(&[7, 0, 0, 0, 0, 0, 0], &b[1..]), Err(11));
+    assert_eq!(run(&[7, 0, 0, 0, 0, 0, 0], &rack().images().0), Err(12));
+    assert_eq!(run(&[7, 0, 0, 0, 0, 0, 0], &b), Err(13));
+    assert_eq!(run(&[6, 0, 0, 0, 0, 0, 0, 0, 0, 0, 0], &b), Err(13));
+    // The reset.
+    let (mut b2, mut d2) = (vec![0xEE; 64], vec![0x11; 64]);
+    assert_eq!(calls::reset_of_bytes(&records, &mut b2, &mut d2), Ok(()));
+    assert_eq!((b2, d2), (b, d));
+}
+
+#[test]
+fn an_older_bridge_over_a_rack() {
+    let machine = placed(one_of_each_below(13)).put(0, 0, 4, 7).machine();
+    let (rack, b, d) = (machine.rack(), machine.bridges(), machine.devices());
+    let windows = calls::windows(rack, b, d, 0).unwrap();
+    assert_eq!(windows.io, Ends { first: 0x3000, last: 0x5FFF });
+    assert_eq!(windows.memory, Ends { first: 0x3000_0000, last: 0x400F_FFFF });
+    assert_eq!(windows.prefetchable, Ends { first: 0x6000_0000, last: 0x700F_FFFF });
+    for (index, ends) in (0u8..).zip([windows.memory, windows.prefetchable, windows.io]) {
+        assert_eq!(calls::window(rack, b, d, 0, index), Ok(Some(ends)));
+        assert_eq!(calls::ends(rack, b, d, 0, index), Ok(Some(ends)));
+    }
+    assert_eq!(calls::ends(rack, b, d, 0, 3), Err(13));
+    assert_eq!(calls::region(rack, b, d, 0, 0), Err(13));
+    assert_eq!(calls::view(rack, b, d, 0), Ok(b));
+    let (mut b2, mut d2) = (b.to_vec(), d.to_vec());
+    assert_eq!(calls::size(rack, &mut b2, &mut d2, 0, 0), Err(13));
+    let written = calls::register_write(rack, &mut b2, &mut d2, 0, (0x30, 15, u32::MAX));
+    assert_eq!((written, &b2[..], &d2[..]), (Ok(()), b, d));
+    let claim = |bus, address| calls::claim(rack, b, d, (bus, 0), address);
+    assert_eq!(claim(255, Address::Io(0x3000)), Ok(true));
+    assert_eq!(claim(0, Address::Io(0x3000)), Ok(false));
+    for address in [Address::Io(0x1_3000), Address::Memory(0x1_6000_0000)] {
+        assert_eq!(claim(255, address), Ok(false));
+        assert_eq!(claim(0, address), Ok(true));
+    }
 }
 
 #[test]

@@ -1,8 +1,8 @@
-//! The check: its order, and brute force over every I/O address below 64 KiB.
+//! The check: its order, and brute force over every I/O address below 64 KiB and some above.
 
 use std::time::{Duration, Instant};
 
-use crate::build::{full_at_work, only, File, Random, NO_REGIONS};
+use crate::build::{full_at_work, only, File, Random, EDITIONS, NO_REGIONS};
 use rackcheck::answer::{Fault, Kind};
 use rackcheck::check::{check, check_bus, fault_at, points};
 use rackcheck::claims::{bus_claims, claimants};
@@ -115,7 +115,8 @@ fn a_check_changes_no_register() {
     assert_eq!(file.clone().check().check().machine(), file.machine());
 }
 
-/// 3 to 8 nodes with I/O ranges that often touch each other.
+/// 3 to 8 nodes, bridges of both kinds among them, with I/O ranges that often touch each
+/// other.
 pub fn random_rack(random: &mut Random) -> File {
     let mut file = File::host(random.below(4) << 18, random.below(4) << 18 | 0xFFF);
     let (mut bridges, mut places, mut taken) = (vec![255u8], Vec::new(), Vec::new());
@@ -128,7 +129,7 @@ pub fn random_rack(random: &mut Random) -> File {
         }
         taken.push((parent, device));
         if random.below(5) < 2 {
-            file = file.bridge(parent, device);
+            file = file.bridge_of(random.pick(&[2, 13]), parent, device);
             bridges.push(node);
             places.push((parent, device, true));
         } else {
@@ -195,10 +196,13 @@ fn write_bus(
     file
 }
 
-/// The first fault of a bus below 64 KiB, by trying every address with every driver.
+/// Beyond the first 64 KiB, so that what ends there is met.
+const TRIED: u32 = 0x1_1000;
+
+/// The first fault of a bus below [`TRIED`], by trying every address with every driver.
 fn brute_force(machine: &Machine, bus: u8) -> Option<Fault> {
     let agents = machine.rack().agents(bus);
-    for value in 0..0x10000u32 {
+    for value in 0..TRIED {
         for driver in &agents {
             if let [a, b, ..] = *claimants(machine, bus, *driver, Address::Io(value)).as_slice() {
                 let claimants = (a, b);
@@ -223,7 +227,7 @@ fn brute_force_io() {
         let machine = random_rack(&mut random).machine();
         for bus in machine.rack().buses() {
             let by_points =
-                check_bus(&machine, bus, Kind::Io).filter(|fault| fault.value < 0x10000);
+                check_bus(&machine, bus, Kind::Io).filter(|fault| fault.value < TRIED.into());
             let by_force = brute_force(&machine, bus);
             assert_eq!(by_points, by_force);
             match by_force.map(|fault| fault.value) {
@@ -237,7 +241,7 @@ fn brute_force_io() {
     assert!(zero >= 5 && inside >= 20 && none >= 50, "{zero} {inside} {none}");
 }
 
-/// Claims do not change between neighbouring points: each address below 64 KiB has the
+/// Claims do not change between neighbouring points: each address below [`TRIED`] has the
 /// claimants of the point at or below it.
 #[test]
 fn claims_are_constant_between_points() {
@@ -247,7 +251,7 @@ fn claims_are_constant_between_points() {
         for bus in machine.rack().buses() {
             let points = points(&bus_claims(&machine, bus), Kind::Io);
             let mut known = Vec::new();
-            for value in 0..0x10000u32 {
+            for value in 0..TRIED {
                 let here = claimants(&machine, bus, 254, Address::Io(value));
                 if points.binary_search(&u64::from(value)).is_ok() {
                     known = here;
@@ -302,11 +306,18 @@ fn whole_check_is_the_first_bus_and_kind() {
     }
 }
 
-/// 32 bridges and 64 devices, ISA and VGA on in all bridges, no clash anywhere: the
-/// check has to try everything.
 #[test]
 fn full_rack_is_quick() {
-    let mut machine = File::full([(1, 8), (2, 12), (3, 31)]).machine();
+    for kinds in EDITIONS {
+        println!("{kinds:?}, all points tried: {:?}", passes_quickly(&full_and_quiet(kinds)));
+    }
+    println!("full rack at work: {:?}", passes_quickly(&full_at_work()));
+}
+
+/// 32 bridges and 64 devices, ISA and VGA on in all bridges, no clash anywhere: the
+/// check has to try everything.
+fn full_and_quiet(kinds: [u8; 2]) -> Machine {
+    let mut machine = File::full(kinds, [(1, 8), (2, 12), (3, 31)]).machine();
     for bridge in 0..32u8 {
         let window = u32::from(bridge % 16) << 4;
         machine.write(bridge, 0x1C, 15, window | window << 8);
@@ -327,8 +338,7 @@ fn full_rack_is_quick() {
         machine.write(device, 0x20, 15, place << 31);
         machine.write(device, 0x24, 15, place);
     }
-    println!("full rack, all points tried: {:?}", passes_quickly(&machine));
-    println!("full rack at work: {:?}", passes_quickly(&full_at_work()));
+    machine
 }
 
 /// The time of a check that passes: the best of five, so that a busy machine does not count.

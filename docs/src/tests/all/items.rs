@@ -4,13 +4,14 @@ use std::fmt::UpperHex;
 
 use crate::build::{only, File, NO_REGIONS};
 use rackcheck::claims::claims;
+use rackcheck::rack::Options;
 use rackcheck::windows::{Address, Windows};
 
 /// The windows of a root bridge (device number 0) after these writes of whole registers.
 fn windows(writes: &[(u8, u32)]) -> Windows {
     let file = File::new().bridge(255, 0);
     let file = writes.iter().fold(file, |file, (register, data)| file.put(0, 0, *register, *data));
-    Windows::of(file.machine().part(0))
+    Windows::of(file.machine().part(0), Options::ALL)
 }
 
 fn in_and_out<A: Copy + UpperHex>(hold: impl Fn(A) -> bool, inside: &[A], outside: &[A]) {
@@ -22,17 +23,17 @@ fn in_and_out<A: Copy + UpperHex>(hold: impl Fn(A) -> bool, inside: &[A], outsid
     }
 }
 
-fn io(windows: &Windows, inside: &[u32], outside: &[u32]) {
+pub fn io(windows: &Windows, inside: &[u32], outside: &[u32]) {
     in_and_out(|address| windows.hold_io(address), inside, outside);
 }
 
-fn memory(windows: &Windows, inside: &[u64], outside: &[u64]) {
+pub fn memory(windows: &Windows, inside: &[u64], outside: &[u64]) {
     in_and_out(|address| windows.hold_memory(address), inside, outside);
 }
 
-const ISA: u32 = 0x0004_0000;
-const VGA: u32 = 0x0008_0000;
-const VGA_16: u32 = 0x0010_0000;
+pub const ISA: u32 = 0x0004_0000;
+pub const VGA: u32 = 0x0008_0000;
+pub const VGA_16: u32 = 0x0010_0000;
 
 #[test]
 fn item_01_io_window() {

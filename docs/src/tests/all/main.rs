@@ -4,6 +4,7 @@ mod build;
 mod calls;
 mod check;
 mod items;
+mod older;
 mod program;
 mod random;
 mod refusals;

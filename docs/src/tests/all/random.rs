@@ -43,7 +43,7 @@ pub fn records(random: &mut Random) -> Vec<u8> {
     let nodes = random.below(8) as u8;
     for node in 0..nodes {
         let parent = if node == 0 { 255 } else { random.pick(&[255, 255, node - 1, 0]) };
-        bytes.extend([random.pick(&[2, 2, 3]), parent, node, 1, 2, 3, 4]);
+        bytes.extend([random.pick(&[2, 13, 3]), parent, node, 1, 2, 3, 4]);
         if bytes[bytes.len() - 7] == 3 {
             let regions = [[0, 0], [1, 2], [1, 8], [2, 4], [2, 31], [3, 4], [3, 31]];
             bytes.extend((0..3).flat_map(|_| random.pick(&regions)));

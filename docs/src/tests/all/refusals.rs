@@ -1,8 +1,8 @@
 //! "Refused, in this order": each number, and several faults at once.
 
-use crate::build::{bridge, device, only, File, NO_REGIONS};
+use crate::build::{bridge, bridge_with, device, older, only, File, EDITIONS, NO_REGIONS};
 use rackcheck::machine::Machine;
-use rackcheck::rack::{Node, Rack};
+use rackcheck::rack::{Node, Options, Rack};
 use rackcheck::refuse::{self, Fields};
 
 fn refused(file: File, number: u8, offset: usize) {
@@ -33,7 +33,7 @@ fn r01_too_long() {
 
 #[test]
 fn r02_kind() {
-    for kind in [0, 9, 255] {
+    for kind in (0..=255).filter(|kind| !matches!(kind, 1..=8 | 13)) {
         refused(File::empty().raw(&[kind]), 2, 0);
         refused(File::new().raw(&[kind]), 2, 17);
         refused(File::new().check().raw(&[kind, 1, 2, 3]), 2, 18);
@@ -43,7 +43,7 @@ fn r02_kind() {
 #[test]
 fn r03_cut_short() {
     let lengths = [16, 6, 12, 8, 3, 10, 6, 0];
-    for (kind, length) in (1u8..).zip(lengths) {
+    for (kind, length) in (1u8..).zip(lengths).chain([(13, 6)]) {
         for have in 0..length {
             refused(File::new().raw(&[kind]).raw(&vec![0; have]), 3, 17);
             // Before 4: as the first record too.
@@ -52,6 +52,7 @@ fn r03_cut_short() {
     }
     // Before 5: a bridge after an event.
     refused(File::new().check().raw(&[2, 255]), 3, 18);
+    refused(File::new().check().raw(&[13, 255, 0, 0, 0, 0]), 3, 18);
 }
 
 #[test]
@@ -59,6 +60,8 @@ fn r04_host() {
     refused(File::empty(), 4, 0);
     refused(File::empty().check(), 4, 0);
     refused(File::empty().bridge(255, 0), 4, 0);
+    refused(File::empty().older(255, 0), 4, 0);
+    refused(File::empty().older(7, 99).raw(&File::new().0), 4, 0); // before 7 and 8
     refused(File::empty().bridge(7, 99).check(), 4, 0); // before 7 and 8
     refused(File::empty().memory(3, 9, 0), 4, 0); // before 13
     refused(File::new().raw(&File::new().0), 4, 17);
@@ -68,22 +71,29 @@ fn r04_host() {
 #[test]
 fn r05_rack_record_after_event() {
     refused(File::new().check().bridge(255, 0), 5, 18);
+    refused(File::new().check().older(255, 0), 5, 18);
+    refused(File::new().check().older(9, 99), 5, 18); // before 7 and 8
+    refused(File::all_bridges([2, 13]).check().older(255, 0), 5, 17 + 32 * 7 + 1); // before 6
     refused(File::new().check().device(255, 0, NO_REGIONS), 5, 18);
     refused(File::new().check().device(9, 99, [(9, 9); 3]), 5, 18); // before 7, 8, 10
 }
 
 #[test]
 fn r06_too_many() {
-    let full = || File::full(NO_REGIONS);
-    accepted(full());
-    let at = 17 + 32 * 7 + 64 * 13;
-    refused(full().bridge(10, 0), 6, at);
-    refused(full().device(10, 0, NO_REGIONS), 6, at);
-    refused(full().bridge(99, 99), 6, at); // before 7 and 8
-    refused(full().device(1, 0, [(9, 9); 3]), 6, at); // before 9 and 10
+    for kinds in EDITIONS {
+        let full = || File::full(kinds, NO_REGIONS);
+        accepted(full());
+        let at = 17 + 32 * 7 + 64 * 13;
+        refused(full().device(10, 0, NO_REGIONS), 6, at);
+        refused(full().device(1, 0, [(9, 9); 3]), 6, at); // before 9 and 10
+        for kind in [2, 13] {
+            refused(full().bridge_of(kind, 10, 0), 6, at);
+            refused(full().bridge_of(kind, 99, 99), 6, at); // before 7 and 8
 
-    // A 64th device after the 32nd bridge, and a 33rd bridge before it.
-    refused(File::all_bridges().bridge(1, 0), 6, 17 + 32 * 7);
+            // A 64th device after the 32nd bridge, and a 33rd bridge before it.
+            refused(File::all_bridges(kinds).bridge_of(kind, 1, 0), 6, 17 + 32 * 7);
+        }
+    }
 }
 
 #[test]
@@ -93,6 +103,12 @@ fn r07_parent() {
     refused(File::new().device(255, 0, NO_REGIONS).bridge(0, 0), 7, 30); // a device
     refused(File::new().bridge(254, 16), 7, 17); // before 8
     refused(File::new().device(3, 16, [(9, 9); 3]), 7, 17); // before 8 and 10
+    refused(File::new().older(0, 0), 7, 17);
+    refused(File::new().older(1, 0).older(255, 0), 7, 17);
+    refused(File::new().device(255, 0, NO_REGIONS).older(0, 0), 7, 30);
+    refused(File::new().older(254, 16), 7, 17);
+    // An older bridge is a parent of all three.
+    accepted(File::new().older(255, 0).older(0, 0).bridge(1, 0).device(1, 1, NO_REGIONS));
 }
 
 #[test]
@@ -100,6 +116,9 @@ fn r08_device_number() {
     refused(File::new().bridge(255, 16), 8, 17);
     refused(File::new().device(255, 255, [(9, 9); 3]), 8, 17); // before 10
     accepted(File::new().bridge(255, 15));
+    refused(File::new().older(255, 16), 8, 17);
+    refused(File::new().bridge(255, 16).older(255, 16), 8, 17);
+    accepted(File::new().older(255, 15));
 }
 
 #[test]
@@ -108,6 +127,12 @@ fn r09_taken() {
     refused(File::new().bridge(255, 3).bridge(255, 3), 9, 24);
     refused(File::new().bridge(255, 3).device(255, 3, [(0, 1); 3]), 9, 24); // before 10
     accepted(File::new().bridge(255, 3).device(0, 3, NO_REGIONS));
+    for [first, second] in EDITIONS {
+        let one = || File::new().bridge_of(first, 255, 3);
+        refused(one().bridge_of(second, 255, 3), 9, 24);
+        accepted(one().bridge_of(second, 0, 3));
+        refused(one().device(255, 3, NO_REGIONS), 9, 24);
+    }
 }
 
 #[test]
@@ -131,7 +156,14 @@ fn r10_regions() {
 
 #[test]
 fn r11_image_lengths() {
-    let file = File::new().bridge(255, 0).device(255, 1, NO_REGIONS).device(255, 2, NO_REGIONS);
+    for kind in [2, 13] {
+        lengths_stand(File::new().bridge_of(kind, 255, 0));
+    }
+}
+
+/// With two devices more: 64 and 128 bytes.
+fn lengths_stand(file: File) {
+    let file = file.device(255, 1, NO_REGIONS).device(255, 2, NO_REGIONS);
     let rack = file.rack();
     for bridges in [0, 63, 64, 65, 128] {
         for devices in [0, 64, 127, 128, 129, 192] {
@@ -146,7 +178,27 @@ fn r11_image_lengths() {
 
 #[test]
 fn r12_fixed_bits() {
-    let file = File::new().bridge(255, 0).device(255, 1, [(1, 3), (2, 4), (3, 31)]);
+    for kind in [2, 13] {
+        let file = File::new().bridge_of(kind, 255, 0);
+        fixed_bits_stand(file.device(255, 1, [(1, 3), (2, 4), (3, 31)]));
+    }
+    // What a newer bridge takes and an older one has fixed: an image of one is none of the other.
+    let (newer, old) = (File::new().bridge(255, 0), File::new().older(255, 0));
+    assert_eq!(refuse::images(&newer.rack(), &old.images().0, &[]), Some(12));
+    assert_eq!(refuse::images(&old.rack(), &newer.images().0, &[]), Some(12));
+    for (at, bit) in [(0x1C, 1), (0x1D, 1), (0x24, 1), (0x26, 1), (0x3E, 0x10)]
+        .into_iter()
+        .chain((0x28..0x34).flat_map(|at| [(at, 1), (at, 0x80)]))
+    {
+        let mut image = old.images().0;
+        image[at] |= bit;
+        assert_eq!(refuse::images(&old.rack(), &image, &[]), Some(12), "{at:X}");
+    }
+}
+
+/// Node 0 in the bridges' image and node 1 in the devices': a bit may differ from reset
+/// if a mask has it, and no other.
+fn fixed_bits_stand(file: File) {
     let rack = file.rack();
     let reset = file.images();
     assert_eq!(refuse::images(&rack, &reset.0, &reset.1), None);
@@ -165,7 +217,13 @@ fn r12_fixed_bits() {
 
 #[test]
 fn r13_in_a_file() {
-    let rack = || File::new().bridge(255, 0).device(255, 1, NO_REGIONS);
+    for kind in [2, 13] {
+        fields_of_events_stand(|| File::new().bridge_of(kind, 255, 0).device(255, 1, NO_REGIONS));
+    }
+}
+
+/// Node 0 is a bridge, node 1 a device.
+fn fields_of_events_stand(rack: impl Fn() -> File) {
     for register in 0..=255u8 {
         for file in [rack().put(0, 0, register, 0), rack().get(0, 0, register)] {
             accepted_if(register % 4 == 0, file, 13, 37);
@@ -209,10 +267,15 @@ fn decoded_racks() {
     assert_eq!(number(vec![device(255, 0, only(1, 9))]), Some(10));
     // "node by node, as a file would meet them": 10 of node 0 before 7 of node 1.
     assert_eq!(number(vec![device(255, 0, only(1, 9)), bridge(9, 9)]), Some(10));
-    let chain = |n: u8| (0..n).map(|i| bridge(if i == 0 { 255 } else { i - 1 }, 0)).collect();
-    assert_eq!(number(chain(32)), None);
-    assert_eq!(number(chain(33)), Some(6));
-    assert_eq!(number(chain(200)), Some(6));
+    let (all, none) = (Options::ALL, Options::NONE);
+    for kinds in [[all, all], [all, none], [none, all], [none, none]] {
+        let parent = |i: u8| if i == 0 { 255 } else { i - 1 };
+        let link = |i: u8| bridge_with(kinds[usize::from(i % 2)], parent(i), 0);
+        let chain = |n: u8| (0..n).map(link).collect();
+        assert_eq!(number(chain(32)), None);
+        assert_eq!(number(chain(33)), Some(6));
+        assert_eq!(number(chain(200)), Some(6));
+    }
     assert_eq!(number(vec![device(255, 0, NO_REGIONS); 1000]), Some(9));
 }
 
@@ -239,8 +302,14 @@ fn calls_in_order() {
 
 #[test]
 fn r13_fields_of_calls() {
-    let rack = decoded(vec![bridge(255, 0), device(0, 0, only(2, 12))]);
-    let number = |fields| refuse::fields(&rack, &fields);
+    for bridge in [bridge, older] {
+        fields_of_calls_stand(&decoded(vec![bridge(255, 0), device(0, 0, only(2, 12))]));
+    }
+}
+
+/// Node 0 is a bridge, node 1 a device.
+fn fields_of_calls_stand(rack: &Rack) {
+    let number = |fields| refuse::fields(rack, &fields);
     let none = Fields::default;
     for node in 0..=255u8 {
         let is = |good: bool| if good { None } else { Some(13) };

@@ -1,12 +1,16 @@
 //! Register rules.
 
-use crate::build::{self, File, Random, NO_REGIONS};
+use crate::build::{self, all_options, bridge_with, File, Random, NO_REGIONS};
 use rackcheck::bytes::u32_at;
 use rackcheck::rack::Node;
 use rackcheck::registers::{masks, read, region_register, size, write, written, PART};
 
 fn bridge() -> Node {
     build::bridge(255, 0)
+}
+
+fn older() -> Node {
+    build::older(255, 0)
 }
 
 fn device(regions: [(u8, u8); 3]) -> Node {
@@ -55,6 +59,66 @@ fn bridge_reset_and_masks_as_dwords() {
 }
 
 #[test]
+fn older_bridge_reset_and_masks_as_dwords() {
+    let rows = [
+        (0x00, 0x0010_1234, 0, 0),
+        (0x04, 0, 0x0000_0147, 0xF900_0000),
+        (0x08, 0x0604_0000, 0, 0),
+        (0x0C, 0x0001_0000, 0x0000_FFFF, 0),
+        (0x10, 0, 0, 0),
+        (0x14, 0, 0, 0),
+        (0x18, 0, 0xFFFF_FFFF, 0),
+        (0x1C, 0, 0x0000_F0F0, 0xF900_0000),
+        (0x20, 0, 0xFFF0_FFF0, 0),
+        (0x24, 0, 0xFFF0_FFF0, 0),
+        (0x28, 0, 0, 0),
+        (0x2C, 0, 0, 0),
+        (0x30, 0, 0, 0),
+        (0x34, 0, 0, 0),
+        (0x38, 0, 0, 0),
+        (0x3C, 0, 0x002F_00FF, 0),
+    ];
+    rows_stand(&older(), rows);
+}
+
+/// Each option moves its own registers, whatever the others are.
+#[test]
+fn options_are_apart() {
+    let (newer, older) = (masks(&bridge()), masks(&older()));
+    for options in all_options() {
+        let masks = masks(&bridge_with(options, 255, 0));
+        let from = |has| if has { &newer } else { &older };
+        for at in 0..PART {
+            let as_in = match at {
+                0x1C | 0x1D | 0x30..=0x33 => from(options.io_32),
+                0x24..=0x2F => from(options.prefetchable_64),
+                _ => from(options.vga_16),
+            };
+            let here = (masks.write[at], masks.clear[at], masks.reset[at]);
+            assert_eq!(here, (as_in.write[at], as_in.clear[at], as_in.reset[at]), "{at:X}");
+        }
+    }
+}
+
+/// Writes of bits that only a newer bridge has are `stored`, and leave them 0.
+#[test]
+fn an_older_bridge_ignores_what_it_lacks() {
+    let all_ones = |file: File| {
+        let file = (0..64).step_by(4).fold(file, |file, at| file.put(0, 0, at, u32::MAX));
+        (0..64).step_by(4).fold(file, |file, at| file.get(0, 0, at)).lines()
+    };
+    let (newer, older) =
+        (all_ones(File::new().bridge(255, 0)), all_ones(File::new().older(255, 0)));
+    assert!(older[..16].iter().all(|line| line == "stored 0"));
+    let differ: Vec<_> = (16..32).filter(|at| newer[*at] != older[*at]).collect();
+    assert_eq!(differ, [0x1C, 0x24, 0x28, 0x2C, 0x30, 0x3C].map(|register| 16 + register / 4));
+    let digits = ["0000F0F0", "FFF0FFF0", "00000000", "00000000", "00000000", "002F00FF"];
+    for (at, digits) in differ.into_iter().zip(digits) {
+        assert_eq!(older[at], format!("data 0 {digits}"));
+    }
+}
+
+#[test]
 fn device_reset_and_masks_as_dwords() {
     let rows = [
         (0x00, 0x0020_5678, 0, 0),
@@ -80,7 +144,8 @@ fn device_reset_and_masks_as_dwords() {
 #[test]
 fn masks_are_disjoint() {
     let devices = all_regions().into_iter().map(|region| device([region; 3]));
-    for node in devices.chain([bridge()]) {
+    let bridges = all_options().into_iter().map(|options| bridge_with(options, 255, 0));
+    for node in devices.chain(bridges) {
         let masks = masks(&node);
         assert!(masks.write.iter().zip(&masks.clear).all(|(write, clear)| write & clear == 0));
         // Bits that can change are 0 at reset.
@@ -148,7 +213,8 @@ fn write_1_to_clear() {
 #[test]
 fn fixed_bits_stay() {
     for ones in [0, u32::MAX, 0x5555_5555, 0xAAAA_AAAA] {
-        for node in [bridge(), device([(1, 2), (2, 31), (3, 4)]), device([(0, 0); 3])] {
+        let devices = [device([(1, 2), (2, 31), (3, 4)]), device([(0, 0); 3])];
+        for node in [bridge(), older()].into_iter().chain(devices) {
             let masks = masks(&node);
             let mut part = masks.reset;
             for register in (0..64).step_by(4) {
@@ -184,7 +250,7 @@ fn a_write_changes_only_its_part() {
     let rack = File::new()
         .bridge(255, 0)
         .device(255, 1, [(3, 4); 3])
-        .bridge(255, 2)
+        .older(255, 2)
         .device(255, 3, [(3, 4); 3])
         .bridge(255, 4)
         .device(255, 5, [(3, 4); 3]);
@@ -201,6 +267,8 @@ fn a_write_changes_only_its_part() {
     }
     assert!(before.part(6).is_empty() && before.part(255).is_empty());
     // Parts are in node order within their image.
+    assert_eq!(before.part(2), &before.bridges()[64..128]);
+    assert_eq!(before.part(2), masks(&build::older(255, 2)).reset);
     assert_eq!(before.part(4), &before.bridges()[128..192]);
     assert_eq!(before.part(3), &before.devices()[64..128]);
 }

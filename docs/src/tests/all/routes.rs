@@ -1,6 +1,6 @@
 //! Routes: up, down, peer to peer, aborts and the status bits that they leave.
 
-use crate::build::{only, File, NO_REGIONS};
+use crate::build::{only, status, File, EDITIONS, NO_REGIONS};
 
 const B13: u16 = 1 << 13;
 const B12: u16 = 1 << 12;
@@ -61,14 +61,30 @@ fn open(control: u32) -> File {
 
 /// All nodes whose status registers are not 0, as (node, status, secondary status).
 fn marks(file: &File) -> Vec<(u8, u16, u16)> {
-    let all = (0..7).map(|node| (node, file.status(node).0, file.status(node).1));
-    all.filter(|mark| (mark.1, mark.2) != (0, 0)).collect()
+    let machine = file.machine();
+    let all = (0..7).map(|node| (node, status(&machine, node)));
+    all.filter(|(_, both)| *both != (0, 0)).map(|(node, both)| (node, both.0, both.1)).collect()
+}
+
+/// The file with each of its bridges (nodes 0 to 3) of either kind. What the tests below
+/// write and reach is the same in both.
+fn mixes(file: &File) -> Vec<File> {
+    let mix = |set: u8| {
+        let mut file = file.clone();
+        for bridge in (0..4).filter(|bridge| set >> bridge & 1 == 1) {
+            file.0[17 + 7 * bridge] = 13;
+        }
+        file
+    };
+    (0..16).map(mix).collect()
 }
 
 /// An event's line, and the marks after it.
 fn goes(file: File, line: &str, expected: &[(u8, u16, u16)]) {
-    assert_eq!(file.last(), line);
-    assert_eq!(marks(&file), expected, "marks of {line}");
+    for file in mixes(&file) {
+        assert_eq!(file.last(), line);
+        assert_eq!(marks(&file), expected, "marks of {line}");
+    }
 }
 
 #[test]
@@ -327,11 +343,17 @@ fn configuration_clash() {
 
 #[test]
 fn isa_and_vga_on_both_sides() {
+    for kind in [2, 13] {
+        isa_and_vga_around_a_bridge(kind);
+    }
+}
+
+fn isa_and_vga_around_a_bridge(kind: u8) {
     // Bridge 0 with I/O 0 to 3FFFh, ISA and VGA, command 7; device 1 below it, device 2 beside it.
     let regions = [(1, 4), (2, 4), (0, 0)];
     let file = || {
         File::new()
-            .bridge(255, 0)
+            .bridge_of(kind, 255, 0)
             .device(0, 0, regions)
             .device(255, 1, regions)
             .put(0, 0, 0x18, 0x0001_0100)
@@ -360,10 +382,15 @@ fn isa_and_vga_on_both_sides() {
 
 #[test]
 fn longest_way() {
-    // Two chains of 16 bridges with a device at each end: 32 crossings.
+    EDITIONS.into_iter().for_each(longest_way_through);
+}
+
+/// Two chains of 16 bridges with a device at each end: 32 crossings. The kinds take turns.
+fn longest_way_through(kinds: [u8; 2]) {
     let chain = |file: File, root: u8, first: u8| {
-        let file = file.bridge(255, root);
-        (first..first + 15).fold(file, |file, parent| file.bridge(parent, 0))
+        let file = file.bridge_of(kinds[0], 255, root);
+        let kind = |parent: u8| kinds[usize::from((parent + 1) % 2)];
+        (first..first + 15).fold(file, |file, parent| file.bridge_of(kind(parent), parent, 0))
     };
     let file = chain(chain(File::new(), 0, 0), 1, 16);
     let file = file.device(15, 1, only(2, 4)).device(31, 1, NO_REGIONS);

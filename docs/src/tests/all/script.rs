@@ -1,14 +1,14 @@
 //! Scripts of calls: CALLS.md.
 
 use crate::build::{
-    binary, full_at_work, hex, one_of_each, one_of_each_placed, only, output, File, Random,
+    binary, full_at_work, hex, one_of_each_below, only, output, placed, File, Random, EDITIONS,
     NO_REGIONS,
 };
 use crate::check::random_rack;
 use crate::random::records;
 use rackcheck::bytes::{u16_at, u64_at};
 use rackcheck::file::read;
-use rackcheck::rack::{Event, Header, Rack};
+use rackcheck::rack::{Event, Header, Options, Rack};
 
 /// What a script gives.
 fn script(bytes: &[u8]) -> Vec<u8> {
@@ -105,7 +105,9 @@ fn decoded(rack: &Rack) -> Vec<u8> {
     bytes.push(rack.nodes.len() as u8);
     for node in rack.nodes.iter().take(96) {
         let (kind, regions) = match &node.header {
-            Header::Bridge => (2, [0xEE; 6]),
+            Header::Bridge(Options::ALL) => (2, [0xEE; 6]),
+            Header::Bridge(Options::NONE) => (13, [0xEE; 6]),
+            Header::Bridge(options) => panic!("no kind has {options:?}"),
             Header::Device([a, b, c]) => {
                 (3, [a.kind, a.exponent, b.kind, b.exponent, c.kind, c.exponent])
             }
@@ -202,7 +204,70 @@ fn a_write_and_a_view_by_hand() {
 
 /// Bridge 0 with windows, ISA and VGA, and device 1 with regions below it.
 fn small() -> File {
-    one_of_each_placed().put(0, 0, 0x3C, 0x001C_0000)
+    small_below(2)
+}
+
+/// The same with a bridge of that kind.
+fn small_below(kind: u8) -> File {
+    placed(one_of_each_below(kind)).put(0, 0, 0x3C, 0x001C_0000)
+}
+
+/// An older bridge at reset, of the same IDs as [`BRIDGE`].
+const OLDER: &str = "34121000 00000000 00000406 00000100 00000000 00000000 00000000 00000000 \
+                     00000000 00000000 00000000 00000000 00000000 00000000 00000000 00000000";
+
+#[test]
+fn an_older_bridge_by_hand() {
+    // Over bytes: the rack of an older bridge, reset, then a write of all of register 30h.
+    let rack = "01 0100000000000000 0000000000000000 0D FF 01 34 12 10 00";
+    let any = "EE".repeat(64);
+    let reset = hex(&["0A 18000000 0000 4000 0000 00 00 00 00000000", rack, &any].concat());
+    let zeros = "00".repeat(64);
+    assert_eq!(script(&reset), hex(&["00", &zeros, "0000", OLDER].concat()));
+    let head = "08 18000000 0900 4000 0000 00 00 00 00000000";
+    let write = hex(&[head, rack, "04 00 08 30 0F FFFFFFFF", OLDER].concat());
+    let stored = ["0200000000000000", &"00".repeat(56)].concat();
+    assert_eq!(script(&write), hex(&["00", &stored, "0000", OLDER].concat()));
+    // The image of the newer one is 12, an event of kind 13 is 2.
+    let newer = hex(&[head, rack, "04 00 08 30 0F FFFFFFFF", BRIDGE].concat());
+    assert_eq!(script(&newer), hex(&["0C", &zeros, "0000", BRIDGE].concat()));
+    let head = "08 18000000 0700 4000 0000 00 00 00 00000000";
+    let event = hex(&[head, rack, "0D FF 02 34 12 10 00", OLDER].concat());
+    assert_eq!(script(&event), hex(&["02", &zeros, "0000", OLDER].concat()));
+    // Over a decoded rack: the prefetchable window at reset is 0 to FFFFFh.
+    let rack = [
+        "0100000000000000 0000000000000000 01 0D FF 01 34 12 10 00 09 09 09 09 09 09",
+        &"00".repeat(95 * 13),
+    ];
+    let head = "05 F1040000 0000 4000 0000 00 01 00 00000000";
+    let ends = hex(&[head, &rack.concat(), OLDER].concat());
+    let numbers = ["0100000000000000 0000000000000000 FFFF0F0000000000", &"00".repeat(40)].concat();
+    assert_eq!(script(&ends), hex(&["00", &numbers, "0000", OLDER].concat()));
+}
+
+#[test]
+fn registers_sizes_and_ends_of_an_older_bridge() {
+    let call = |operation: u8, named: u8| {
+        every_operation(&small_below(13), 0, named, &[]).remove(usize::from(operation) - 1)
+    };
+    for (register, dword) in
+        [(0x1C, 0x5030), (0x24, 0x7000_6000), (0x28, 0), (0x2C, 0), (0x30, 0), (0x3C, 0x000C_0000)]
+    {
+        call(1, register).gives_numbers(&[dword]);
+        let write = Call { data: u32::MAX, ..call(2, register) };
+        let written = write.gives().images.0;
+        assert_eq!(written == write.images.0, (0x28..0x34).contains(&register), "{register:X}");
+        assert_eq!(written[0x3E] & 0x10, 0);
+    }
+    let part = small_below(13).images().0;
+    assert_eq!(call(3, 0).gives(), Gives { part, ..call(3, 0).nothing() });
+    call(4, 0).refused(13);
+    for operation in [5, 11] {
+        call(operation, 0).gives_numbers(&[1, 0x3000_0000, 0x400F_FFFF]);
+        call(operation, 1).gives_numbers(&[1, 0x6000_0000, 0x700F_FFFF]);
+        call(operation, 2).gives_numbers(&[1, 0x3000, 0x5FFF]);
+        call(operation, 3).refused(13);
+    }
 }
 
 #[test]
@@ -256,10 +321,16 @@ fn registers_sizes_and_ends() {
 
 #[test]
 fn refusals_11_12_13_in_their_order() {
+    for kind in [2, 13] {
+        refused_in_order_below(kind);
+    }
+}
+
+fn refused_in_order_below(kind: u8) {
     // Register, region or window 5 is wrong in every call, and so is the event's initiator
     // (bridge 0); checks and the reset know no 13, the view has no such field.
     let event = [7, 0, 0, 0, 0, 0, 0];
-    for call in every_operation(&small(), 1, 5, &event) {
+    for call in every_operation(&small_below(kind), 1, 5, &event) {
         let reset = call.operation == 10;
         let mut spoilt = call.clone();
         spoilt.images.0[0x3F] = 1;
@@ -271,7 +342,7 @@ fn refusals_11_12_13_in_their_order() {
         swapped.refused(11);
         match reset {
             true => {
-                let gives = Gives { images: one_of_each().images(), ..call.nothing() };
+                let gives = Gives { images: one_of_each_below(kind).images(), ..call.nothing() };
                 assert_eq!((spoilt.gives(), call.gives()), (gives.clone(), gives));
             }
             false => spoilt.refused(12),
@@ -299,10 +370,17 @@ fn refusals_1_to_10_come_first() {
         (File::new().check(), 2),
         (File::new().raw(&[2]), 3),
         (File::empty(), 4),
-        (File::all_bridges().bridge(1, 0), 6),
+        (File::new().raw(&[13, 255, 0, 0, 0, 0]), 3),
+        (File::empty().older(255, 0), 4),
+        (File::all_bridges([2, 2]).bridge(1, 0), 6),
+        (File::all_bridges([2, 2]).older(1, 0), 6),
+        (File::all_bridges([13, 2]).bridge(1, 0), 6),
         (File::new().bridge(9, 0), 7),
+        (File::new().older(9, 0), 7),
         (File::new().bridge(255, 16), 8),
+        (File::new().older(255, 16), 8),
         (File::new().bridge(255, 0).bridge(255, 0), 9),
+        (File::new().bridge(255, 0).older(255, 0), 9),
         (File::new().device(255, 0, only(1, 9)), 10),
     ];
     for (file, number) in racks {
@@ -317,6 +395,9 @@ fn refusals_1_to_10_come_first() {
         (File::new().bridge(255, 0).bridge(255, 1), 14, 9, 7),
         (File::new().bridge(255, 0).bridge(255, 1), 15, 16, 8),
         (File::new().bridge(255, 0).bridge(255, 1), 15, 0, 9),
+        (File::new().bridge(255, 0).older(255, 1), 14, 9, 7),
+        (File::new().bridge(255, 0).older(255, 1), 15, 16, 8),
+        (File::new().older(255, 0).bridge(255, 1), 15, 0, 9),
         (File::new().bridge(255, 0).device(255, 1, only(1, 2)), 21, 9, 10),
     ];
     for (file, offset, value, number) in racks {
@@ -327,7 +408,10 @@ fn refusals_1_to_10_come_first() {
         }
     }
     // The event of bytes is read between 10 and 11.
-    for (event, number) in [(vec![], 2), (vec![3], 2), (vec![8, 0], 3), (vec![8], 11)] {
+    let older = vec![13, 255, 1, 0, 0, 0, 0];
+    for (event, number) in
+        [(vec![], 2), (vec![3], 2), (vec![13], 2), (older, 2), (vec![8, 0], 3), (vec![8], 11)]
+    {
         let rack = File::new().bridge(255, 0).0;
         Call { operation: 8, rack, event, ..Call::default() }.refused(number);
     }
@@ -335,7 +419,11 @@ fn refusals_1_to_10_come_first() {
 
 #[test]
 fn a_count_of_97() {
-    let full = File::full(NO_REGIONS);
+    EDITIONS.into_iter().for_each(a_count_of_97_with);
+}
+
+fn a_count_of_97_with(kinds: [u8; 2]) {
+    let full = File::full(kinds, NO_REGIONS);
     for call in every_operation(&full, 0, 0, &[8]).into_iter().take(7) {
         assert_eq!(call.rack[16], 96);
         assert_eq!(call.gives().number, if call.operation == 4 { 13 } else { 0 });
@@ -408,7 +496,7 @@ fn what_is_no_call_ends_the_script() {
         Call { rack: call.rack[..1_264].to_vec(), ..call.clone() }.ends();
         Call { rack: [&call.rack[..], &[0]].concat(), ..call.clone() }.ends();
         Call { rack: small().0, ..call.clone() }.ends();
-        for kind in [0, 1, 4, 255] {
+        for kind in (0..=255).filter(|kind| !matches!(kind, 2 | 3 | 13)) {
             with(17, kind).ends();
             with(17 + 13, kind).ends();
             assert_eq!(with(17 + 26, kind).gives(), call.gives());

@@ -6,6 +6,9 @@ use Rattle.claim_bus.proofs.decode.bridge_of.Tie as tie
 byte-at-requires : tie.Need-byte-at-requires
 byte-at-requires c κs = search needs
 
+options-of-requires : tie.Need-options-of-requires
+options-of-requires c κs = search needs
+
 windows-of-requires : tie.Need-windows-of-requires
 windows-of-requires c κs = search needs
 
@@ -35,6 +38,7 @@ bridge-of-spec =
     tie.close
     (tie.spec
     byte-at-requires
+    options-of-requires
     windows-of-requires
     byte-at-requires-2
     byte-at-requires-3

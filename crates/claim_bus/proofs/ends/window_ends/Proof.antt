@@ -14,6 +14,9 @@ view-requires c κs = search needs
 is-bridge-requires : tie.Need-is-bridge-requires
 is-bridge-requires c κs = search needs
 
+options-of-requires : tie.Need-options-of-requires
+options-of-requires c κs = search needs
+
 windows-of-requires : tie.Need-windows-of-requires
 windows-of-requires c κs = search needs
 
@@ -40,6 +43,7 @@ window-ends-spec =
     node-at-requires
     view-requires
     is-bridge-requires
+    options-of-requires
     windows-of-requires
     window-in-requires
     returns

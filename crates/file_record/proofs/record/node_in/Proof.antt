@@ -30,6 +30,12 @@ word-in-requires-2 c κs = search needs
 byte-at-requires-3 : tie.Need-byte-at-requires-3
 byte-at-requires-3 c κs = search needs
 
+kind-from-requires : tie.Need-kind-from-requires
+kind-from-requires c κs = search needs
+
+is-bridge-requires : tie.Need-is-bridge-requires
+is-bridge-requires c κs = search needs
+
 returns : tie.Need-returns
 returns c = search (bridge-in, needs)
 
@@ -67,6 +73,8 @@ node-in-spec =
     add-word-in-2
     word-in-requires-2
     byte-at-requires-3
+    kind-from-requires
+    is-bridge-requires
     returns
     add-region-from
     region-from-requires

@@ -5,11 +5,11 @@ use Rattle.rack.proofs.table.node_from.Tie as tie
 cast-t8 : tie.Need-cast-t8
 cast-t8 c = search needs
 
-cast-t11 : tie.Need-cast-t11
-cast-t11 c = search needs
+cast-kind-from : tie.Need-cast-kind-from
+cast-kind-from c = search needs
 
-cast-t11-2 : tie.Need-cast-t11-2
-cast-t11-2 c = search needs
+cast-kind-from-2 : tie.Need-cast-kind-from-2
+cast-kind-from-2 c = search needs
 
 cast-t8-2 : tie.Need-cast-t8-2
 cast-t8-2 c = search needs
@@ -17,23 +17,26 @@ cast-t8-2 c = search needs
 cast-t8-3 : tie.Need-cast-t8-3
 cast-t8-3 c = search needs
 
-cast-t11-3 : tie.Need-cast-t11-3
-cast-t11-3 c = search needs
+cast-kind-from-3 : tie.Need-cast-kind-from-3
+cast-kind-from-3 c = search needs
+
+cast-kind-from-4 : tie.Need-cast-kind-from-4
+cast-kind-from-4 c = search needs
 
 kind-from-requires : tie.Need-kind-from-requires
 kind-from-requires c κs = search needs
 
-cast-t11-4 : tie.Need-cast-t11-4
-cast-t11-4 c = search needs
-
 cast-t8-4 : tie.Need-cast-t8-4
 cast-t8-4 c = search needs
 
-cast-t16 : tie.Need-cast-t16
-cast-t16 c = search needs
+cast-t14 : tie.Need-cast-t14
+cast-t14 c = search needs
 
-cast-t19 : tie.Need-cast-t19
-cast-t19 c = search needs
+cast-t17 : tie.Need-cast-t17
+cast-t17 c = search needs
+
+cast-t20 : tie.Need-cast-t20
+cast-t20 c = search needs
 
 returns : tie.Need-returns
 returns c = cc
@@ -43,14 +46,15 @@ node-from-spec =
     tie.close
     (tie.spec
     cast-t8
-    cast-t11
-    cast-t11-2
+    cast-kind-from
+    cast-kind-from-2
     cast-t8-2
     cast-t8-3
-    cast-t11-3
+    cast-kind-from-3
+    cast-kind-from-4
     kind-from-requires
-    cast-t11-4
     cast-t8-4
-    cast-t16
-    cast-t19
+    cast-t14
+    cast-t17
+    cast-t20
     returns)
