@@ -50,6 +50,9 @@ enum {
     RACK_KIND_OLDER_BRIDGE = 13 /* a rack record: a bridge without 32-bit I/O, 64-bit prefetchable memory and VGA 16-bit decode */
 };
 
+/* The device and function of a special cycle: a configuration write to register 0 there, whatever its byte enables and data. */
+enum { RACK_DEVFN_SPECIAL_CYCLE = 8 * 31 + 7 };
+
 /* The bytes of each kind's body. */
 enum {
     RACK_BODY_HOST = 16,               /* first and last address of host memory, 8 each */
@@ -91,7 +94,8 @@ enum {
     RACK_ENDED_CLASH = 6,     /* crossings, holder, the first two claimants */
     RACK_ENDED_SILENT = 7,    /* nothing: the initiator may not drive its bus */
     RACK_ENDED_PASS = 8,      /* nothing: no two agents claim one address */
-    RACK_ENDED_FAULT = 9      /* holder, one of RACK_SPACE_.., the address or bus number, driver, the first two claimants */
+    RACK_ENDED_FAULT = 9,     /* holder, one of RACK_SPACE_.., the address or bus number, driver, the first two claimants */
+    RACK_ENDED_SPECIAL = 12   /* crossings, holder: a special cycle, which changes no register */
 };
 
 /* What became of an access that nobody claimed. */

@@ -1,5 +1,5 @@
 """Random rack files: whole ones of several shapes, and broken ones of every refusal, with several faults at once."""
-from racks import BRIDGE, BRIDGES, CHECK, DEVICE, HOST, OLDER_BRIDGE, OPTIONS, Firmware, Node, configuration, events, memory, random_rack, read, write
+from racks import BRIDGE, BRIDGES, CHECK, DEVICE, HOST, OLDER_BRIDGE, OPTIONS, Firmware, Node, configuration, events, memory, random_rack, read, special_cycle, write
 
 MOST = 65536
 
@@ -11,12 +11,13 @@ def configured(rng, bridges, devices, shape, count, checks, odd):
 
 
 def deep(rng):
-    """Up to 32 bridges in a row; a read on every bus, so that each count of crossings occurs."""
+    """Up to 32 bridges in a row; a read and a special cycle on every bus, so that each count of crossings occurs."""
     depth = 32 if rng.random() < 0.5 else rng.randint(2, 31)
     rack = random_rack(rng, depth, rng.randint(1, 12), "chain")
     firmware = Firmware(rack)
     out = firmware.writes(rng, rng.choice((0, 0, 0.02)))
-    out += [read(bus, rng.choice((0, 8, 16, 0x78)), 0) for bus in range(depth + 2)]
+    for bus in range(depth + 2):
+        out += [read(bus, rng.choice((0, 8, 16, 0x78)), 0), special_cycle(rng, bus)]
     return rack.records(), out + events(rng, rack, firmware, 40, rng.randint(0, 1))
 
 

@@ -129,6 +129,25 @@ static void older_bridge(void)
     }
 }
 
+/* A special cycle answers for itself and changes nothing, no status bit either; a read of the same register is none. */
+static void special_cycle(void)
+{
+    uint64_t answer[RACK_ANSWER_NUMBERS];
+    uint8_t event[1 + RACK_BODY_CONFIGURATION_WRITE] = {RACK_KIND_CONFIGURATION_WRITE, 5, RACK_DEVFN_SPECIAL_CYCLE};
+    uint8_t of_register[1 + RACK_BODY_CONFIGURATION_READ] = {RACK_KIND_CONFIGURATION_READ, 5, RACK_DEVFN_SPECIAL_CYCLE};
+    start(&r);
+    add_bridge(&r, RACK_NODE_HOST, 0);
+    expect(reset(&r) == 0, "a rack of one bridge is refused");
+    bridges[0x19] = bridges[0x1A] = 5; /* secondary and subordinate bus */
+    uint8_t before[RACK_NODE_BYTES];
+    memcpy(before, bridges, sizeof before);
+    expect(run(&r, event, sizeof event, answer) == 0 && answer[0] == RACK_ENDED_SPECIAL && answer[1] == 1 && answer[2] == 0,
+           "a special cycle ends in another way");
+    expect(memcmp(before, bridges, sizeof before) == 0, "a special cycle changes a register");
+    expect(run(&r, of_register, sizeof of_register, answer) == 0 && answer[0] == RACK_ENDED_UNCLAIMED, "a read is taken for a special cycle");
+    expect(memcmp(before, bridges, sizeof before) != 0, "a read that nobody answers sets no status bit");
+}
+
 static void access_of_the_host(void)
 {
     uint64_t answer[RACK_ANSWER_NUMBERS];
@@ -252,6 +271,7 @@ int main(void)
     rack_bodies();
     event_bodies();
     older_bridge();
+    special_cycle();
     access_of_the_host();
     limits();
     image_length();

@@ -7,6 +7,7 @@ BRIDGES = (BRIDGE, OLDER_BRIDGE)
 COMMAND, BUSES, IO_WINDOW, MEMORY, PREFETCHABLE = 0x04, 0x18, 0x1C, 0x20, 0x24
 PREFETCHABLE_BASE_UPPER, PREFETCHABLE_LIMIT_UPPER, IO_UPPER, CONTROL = 0x28, 0x2C, 0x30, 0x3C
 OPTIONS = (IO_WINDOW, PREFETCHABLE, PREFETCHABLE_BASE_UPPER, PREFETCHABLE_LIMIT_UPPER, IO_UPPER, CONTROL)
+SPECIAL_CYCLE = 8 * 31 + 7  # device and function of a special cycle, with register 0
 EXPONENTS = {1: (2, 8), 2: (4, 31), 3: (4, 31)}
 
 
@@ -16,6 +17,15 @@ def number(value, count):
 
 def write(bus, device, register, enables, data):
     return bytes([4, bus, device, register, enables]) + number(data, 4)
+
+
+def special_cycle(rng, bus):
+    """Any enables and data: they play no part."""
+    return write(bus, SPECIAL_CYCLE, 0, rng.getrandbits(4), rng.getrandbits(32))
+
+
+def is_special_cycle(event):
+    return event[:1] == b"\x04" and event[2:4] == bytes([SPECIAL_CYCLE, 0])
 
 
 def read(bus, device, register):
@@ -247,8 +257,21 @@ def access(rng, rack, firmware):
     return (io if is_io else memory)(initiator, rng.getrandbits(1), address)
 
 
+def nearly_special(rng, bus):
+    """A configuration access that lacks one thing to be a special cycle."""
+    return rng.choice((
+        read(bus, SPECIAL_CYCLE, 0),
+        write(bus, 8 * 31, 0, 15, 0),
+        write(bus, SPECIAL_CYCLE, 4, 15, 0),
+        write(bus, SPECIAL_CYCLE - 8, 0, 15, 0),
+    ))
+
+
 def configuration(rng, rack, firmware):
-    """A register of a node that is there, or now and then of none; any register, any data."""
+    """A register of a node that is there, or now and then of none; any register, any data; or a special cycle."""
+    if rng.random() < 0.12:
+        bus = rng.choice(list(firmware.number.values())) % 256 if rng.random() < 0.8 else rng.randint(0, 255)
+        return special_cycle(rng, bus) if rng.random() < 0.6 else nearly_special(rng, bus)
     bus, device = rng.randint(0, 255), rng.getrandbits(8)
     if rack.nodes and rng.random() < 0.9:
         bus, device = firmware.target(rng.randrange(len(rack.nodes)))

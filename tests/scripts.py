@@ -4,6 +4,7 @@ from racks import BRIDGE, CHECK, DEVICE, EXPONENTS, HOST, OLDER_BRIDGE, Firmware
 DECODED = (1, 2, 3, 4, 5, 6, 7)
 ARCHIVE = (8, 9, 10, 11)
 NAMING = (1, 2, 3, 4, 5, 11)  # operations that name a node
+RUNNING = (6, 8)  # operations that run an event
 NODES = 96
 RECORD_BYTES = {1: 17, BRIDGE: 7, DEVICE: 13, OLDER_BRIDGE: 7}
 
@@ -133,6 +134,12 @@ def random_event(rng, rack, firmware):
 def any_bytes(rng, event):
     """An event as C may hand it over: cut short, too long, of no kind."""
     return rng.choice((event[: rng.randint(0, len(event))], event + b"\x00", bytes([rng.choice((0, 1, 3, 9, OLDER_BRIDGE, 255))]) + event[1:]))
+
+
+def event_of(call):
+    """The bytes of a call's event."""
+    at = 18 + int.from_bytes(call[1:5], "little")
+    return call[at : at + int.from_bytes(call[5:7], "little")]
 
 
 def node_kinds(call):

@@ -74,6 +74,18 @@ static void obey_write(struct chassis *c, const char *const word[])
     }
 }
 
+/* A message to all cards of a bus: device and function of a special cycle, register 0 and all bytes enabled. */
+static void obey_special(struct chassis *c, const char *const word[])
+{
+    uint8_t event[1 + RACK_BODY_CONFIGURATION_WRITE] = {RACK_KIND_CONFIGURATION_WRITE, 0, RACK_DEVFN_SPECIAL_CYCLE, 0, 0xF};
+    uint64_t bus, data;
+    if (hexadecimal(word[0], "bus", 0xFF, &bus) && hexadecimal(word[1], "data", UINT32_MAX, &data)) {
+        event[1] = (uint8_t)bus;
+        put_number(&event[5], data, 4);
+        run(c, event, sizeof event);
+    }
+}
+
 /* WHO read|write, the first two bytes of the body of an access. */
 static bool read_driver(const char *const word[], uint8_t *body)
 {
@@ -151,6 +163,7 @@ static const struct command commands[] = {
     {"tree", "", "the rack with both ends of every window and region", 0, obey_tree},
     {"write", "BUS DEVICE REGISTER ENABLES DATA", "a configuration write, all in hexadecimal", 5, obey_write},
     {"read", "BUS DEVICE REGISTER", "a configuration read, the same", 3, obey_read},
+    {"special", "BUS DATA", "a special cycle on that bus, the same", 2, obey_special},
     {"memory", "WHO read|write ADDRESS", "a memory access of the host, or of a card by its decimal number", 3, obey_memory},
     {"io", "WHO read|write ADDRESS", "an I/O access, the same", 3, obey_io},
     {"check", "", "does anyone claim what another claims?", 0, obey_check},
@@ -165,7 +178,7 @@ static void obey_help(struct chassis *c, const char *const word[])
 {
     (void)c, (void)word;
     for (unsigned i = 0; i < COMMANDS; i++) {
-        printf("%-6s %-33s %s\n", commands[i].name, commands[i].takes, commands[i].help);
+        printf("%-7s %-33s %s\n", commands[i].name, commands[i].takes, commands[i].help);
     }
 }
 

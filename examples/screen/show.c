@@ -168,6 +168,11 @@ void show_answer(const struct chassis *c, const uint64_t a[RACK_ANSWER_NUMBERS])
         printf(" it,");
         show_crossings(a[1]);
         break;
+    case RACK_ENDED_SPECIAL:
+        printf("special cycle on ");
+        show_bus(a[2]);
+        show_crossings(a[1]);
+        break;
     case RACK_ENDED_SILENT:
         printf("silent: the initiator may not drive its bus\n");
         break;

@@ -33,6 +33,7 @@ fn shown_of(r: Route) -> u64
             first,
             second,
         } => crossings,
+        End::Special { holder } => crossings,
         End::Silent => crossings,
     }
 }

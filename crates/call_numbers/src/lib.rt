@@ -85,6 +85,7 @@ fn put_ending(answer: &mut [u64; 8], crossings: u32, e: Ending)
             0,
             0,
         ),
+        Ending::Special { holder } => put_eight(answer, 12, crossed, holder as u64, 0, 0, 0, 0),
         Ending::Silent => put_eight(answer, 7, 0, 0, 0, 0, 0, 0),
     }
 }

@@ -1,11 +1,14 @@
 pub mod Refusing
 pub mod Sizing
+pub mod Numbered
 pub mod Checking
 pub mod Going
 pub mod Silent
+pub mod Special
 pub mod Later
 pub mod Decoded
 pub mod CRefusing
 pub mod CChecking
 pub mod CGoing
+pub mod CSpecial
 pub mod CLater

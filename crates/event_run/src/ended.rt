@@ -83,6 +83,7 @@ pub(crate) fn ended_at(
             first,
             second,
         },
+        End::Special { holder } => Ending::Special { holder },
         End::Silent => Ending::Silent,
     };
     Answer::Ended { crossings, ending }

@@ -14,6 +14,7 @@ pub enum Ending {
     Host { offset: u64 },
     Unclaimed { holder: u8, outcome: Outcome },
     Clash { holder: u8, first: u8, second: u8 },
+    Special { holder: u8 },
     Silent,
 }
 

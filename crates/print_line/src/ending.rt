@@ -77,6 +77,15 @@ fn clash_line(n: u32, crossings: u32, holder: u8, first: u8, second: u8) -> Line
         .byte(b'\n')
 }
 
+fn special_line(n: u32, crossings: u32, holder: u8) -> Line
+    ensures { λ r. ⌜ (textOf r ≡ endingLine n crossings (Ending.Special holder)) × (r .len ≤ 96) ⌝ }
+{
+    begun(n, b"special")
+        .decimal_field(crossings)
+        .decimal_field(holder as u32)
+        .byte(b'\n')
+}
+
 fn silent_line(n: u32, crossings: u32) -> Line
     ensures { λ r. ⌜ (textOf r ≡ endingLine n crossings Ending.Silent) × (r .len ≤ 96) ⌝ }
 {
@@ -101,6 +110,7 @@ pub fn ending_line(n: u32, crossings: u32, e: Ending) -> Line
             first,
             second,
         } => clash_line(n, crossings, holder, first, second),
+        Ending::Special { holder } => special_line(n, crossings, holder),
         Ending::Silent => silent_line(n, crossings),
     }
 }

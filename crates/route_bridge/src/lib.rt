@@ -27,11 +27,11 @@ use route_bus::look::side_on;
 pub fn other_bus(table: &Table, bus: u8, g: u8) -> u8
     ensures { λ r. ⌜ r ≡ otherBus (treeOf (now (table .entry))) bus g ⌝ }
 {
-    if g == bus {
-        let n = node_at(table, g as usize);
-        return n.parent;
+    if g != bus {
+        return g;
     }
-    g
+    let n = node_at(table, g as usize);
+    n.parent
 }
 
 fn is_configuration(space: Space) -> bool

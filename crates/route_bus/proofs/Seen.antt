@@ -1,5 +1,5 @@
 -- What a bus does with an access, after the code has asked for what it rests on.
-use mathlib.Core.Path.{_≡_, ap, _∙_}
+use mathlib.Core.Path.{_≡_, ap, sym, _∙_}
 use mathlib.Core.Bool.{Bool, true, false}
 use Prim.Native.Nat.{ℕ}
 use borrow.Author.Tests.{eq-eqb, ne-eqb}
@@ -12,10 +12,11 @@ use Rattle.claim_agent.specs.declared.Claimants.the-variants.{Nobody, One, Two}
 use Rattle.claim_agent.specs.definitions.Claimants.{claimants, firstTwo}
 use Rattle.route_bus.specs.declared.Access.{Access}
 use Rattle.route_bus.specs.declared.Outcome.the-variants.{Abort}
-use Rattle.route_bus.specs.declared.End.the-variants.{Node, Unclaimed, Clash}
+use Rattle.route_bus.specs.declared.End.the-variants.{Node, Unclaimed, Clash, Special}
 use Rattle.route_bus.specs.declared.Sight.{Sight}
 use Rattle.route_bus.specs.declared.Sight.the-variants.{Ends}
-use Rattle.route_bus.specs.definitions.Look.{sideOn, masterAbort, unclaimed, owned, claimed, target, direct, look}
+use Rattle.route_bus.specs.definitions.Look.{sideOn, masterAbort, unclaimed, owned, claimed, target, selects, isSpecialCycle, direct, look}
+use Rattle.route_bus.specs.laws.LookLaws.{special-ends, other-selects}
 
 module _ (t : Tree) (im : Images) (bus driver : ℕ) where
   pub abort-host : driver ≡ 255 → im ≡ masterAbort t im bus driver
@@ -33,13 +34,20 @@ module _ (t : Tree) (im : Images) (bus driver : ℕ) where
 
 module _ (t : Tree) (im : Images) (x : Access) (bus driver : ℕ) where
   module _ {g : ℕ} (eg : g ≡ target t bus (x .devfn)) where
-    pub direct-none : {v : Result Sight} → g ≡ 255 → v ≡ unclaimed t im bus driver → v ≡ direct t im x bus driver
-    unfolding direct
-    direct-none e ev = rw (← eg, eq-eqb g 255 e) ev
+    pub selects-none : {v : Result Sight} → g ≡ 255 → v ≡ unclaimed t im bus driver → v ≡ selects t im x bus driver
+    unfolding selects
+    selects-none e ev = rw (← eg, eq-eqb g 255 e) ev
 
-    pub direct-node : (g ≡ 255 → ⊥) → gives (Ends (Node g)) im ≡ direct t im x bus driver
-    unfolding direct
-    direct-node ne = rw (← eg, ne-eqb g 255 ne)
+    pub selects-node : (g ≡ 255 → ⊥) → gives (Ends (Node g)) im ≡ selects t im x bus driver
+    unfolding selects
+    selects-node ne = rw (← eg, ne-eqb g 255 ne)
+
+  module _ {b : Bool} (eb : b ≡ isSpecialCycle x) where
+    pub direct-special : b ≡ true → gives (Ends (Special bus)) im ≡ direct t im x bus driver
+    direct-special q = sym (special-ends t im x bus driver (sym eb ∙ q))
+
+    pub direct-selects : {v : Result Sight} → b ≡ false → v ≡ selects t im x bus driver → v ≡ direct t im x bus driver
+    direct-selects q ev = ev ∙ sym (other-selects t im x bus driver (sym eb ∙ q))
 
   module _ {c : Claimants} where
     pub claimed-none : {v : Result Sight} → c ≡ Nobody → v ≡ unclaimed t im bus driver → v ≡ claimed t im x bus driver c

@@ -22,13 +22,14 @@ pub enum Outcome {
 }
 
 // Where a route ends: at the node whose register a Type 0 access names, at the region or the host memory that holds the
-// address, unclaimed, in a clash; or nothing was driven.
+// address, unclaimed, in a clash, as a special cycle; or nothing was driven.
 pub enum End {
     Node(u8),
     Owner { node: u8, region: u8, offset: u64 },
     Host { offset: u64 },
     Unclaimed { holder: u8, outcome: Outcome },
     Clash { holder: u8, first: u8, second: u8 },
+    Special { holder: u8 },
     Silent,
 }
 

@@ -5,7 +5,7 @@ ghost use mathlib.Core.Bool.{_&&_};
 ghost use lib.Dec.{eqb};
 ghost use Rattle.rack.specs.definitions.Table.{treeOf, nodeAt};
 ghost use Rattle.register_image.specs.definitions.Image.{images, result};
-ghost use Rattle.route_bus.specs.definitions.Look.{isIo, sideOn, masterAbort, unclaimed, owned, claimed, target, direct, look};
+ghost use Rattle.route_bus.specs.definitions.Look.{isIo, sideOn, masterAbort, unclaimed, owned, claimed, target, selects, isSpecialCycle, direct, look};
 use crate::Access;
 use crate::End;
 use crate::Outcome;
@@ -149,6 +149,32 @@ fn target_of(table: &Table, bus: u8, devfn: u8) -> u8
     255
 }
 
+// Type 0 configuration selects the node of its device number, if there is one.
+fn selected_on(
+    table: &Table,
+    bridges: &mut [u8],
+    devices: &mut [u8],
+    x: Access,
+    bus: u8,
+    driver: u8,
+) -> Sight
+    ensures { λ r. ⌜ result r (now (bridges .exit)) (now (devices .exit)) ≡ selects (treeOf (now (table .entry))) (images (now (bridges .entry)) (now (devices .entry))) x bus driver ⌝ }
+{
+    let g = target_of(table, bus, x.devfn);
+    if g == 255 {
+        return unclaimed_on(table, bridges, devices, bus, driver);
+    }
+    Sight::Ends(End::Node(g))
+}
+
+// A configuration write to device 31, function 7, register 0, whatever bytes are enabled.
+fn is_special_cycle(x: Access) -> bool
+    ensures { λ r. ⌜ r ≡ isSpecialCycle x ⌝ }
+{
+    x.write & ((x.devfn == 31 * 8 + 7) & (x.register == 0))
+}
+
+// A special cycle is for every node of the bus and none of them claims it: it ends there, without a master abort.
 fn direct_on(
     table: &Table,
     bridges: &mut [u8],
@@ -159,11 +185,10 @@ fn direct_on(
 ) -> Sight
     ensures { λ r. ⌜ result r (now (bridges .exit)) (now (devices .exit)) ≡ direct (treeOf (now (table .entry))) (images (now (bridges .entry)) (now (devices .entry))) x bus driver ⌝ }
 {
-    let g = target_of(table, bus, x.devfn);
-    if g == 255 {
-        return unclaimed_on(table, bridges, devices, bus, driver);
+    if is_special_cycle(x) {
+        return Sight::Ends(End::Special { holder: bus });
     }
-    Sight::Ends(End::Node(g))
+    selected_on(table, bridges, devices, x, bus, driver)
 }
 
 // What a bus does with an access.

@@ -4,3 +4,4 @@ pub mod Possible
 pub mod Silent
 pub mod Changes
 pub mod Arrives
+pub mod Special

@@ -56,6 +56,8 @@ pub enum Answer {
     Unclaimed { crossings: usize, holder: u8, how: Abort },
     /// "`clash` crossings, holder, the first two claimants in agent order"
     Clash { crossings: usize, holder: u8, claimants: (u8, u8) },
+    /// "`special` with crossings and holder"
+    Special { crossings: usize, holder: u8 },
     /// `silent`
     Silent,
     /// `pass`
@@ -107,6 +109,7 @@ impl fmt::Display for Answer {
             Answer::Clash { crossings, holder, claimants: (a, b) } => {
                 write!(f, "clash {crossings} {holder} {a} {b}")
             }
+            Answer::Special { crossings, holder } => write!(f, "special {crossings} {holder}"),
             Answer::Silent => f.write_str("silent"),
             Answer::Pass => f.write_str("pass"),
             Answer::Fault(fault) => fault.fmt(f),

@@ -1,6 +1,7 @@
 //! A second, independent implementation of `01-scope.md` ("Bridge trees, claims and routes")
-//! with request E11 of `02-change-requests.md`. Text in quotes in the comments is a
-//! sentence of these two documents; what speaks of older bridges is from E11.
+//! with requests E4 and E11 of `02-change-requests.md`. Text in quotes in the comments is a
+//! sentence of these two documents; what speaks of special cycles is from E4, what speaks
+//! of older bridges from E11.
 //!
 //! - [`file`]: a rack file read to a rack and its events, or to a refusal.
 //! - [`rack`]: the decoded rack, a bridge's options, buses and agents.

@@ -7,21 +7,21 @@ use crate::check::check;
 use crate::file;
 use crate::machine::Machine;
 use crate::rack::{Event, HOST};
-use crate::route::{access_route, config_route, settle, Ending};
+use crate::route::{access_route, config_route, settle, Ending, Target};
 use crate::windows::Address;
 
 /// Runs one event that refusal 13 does not refuse.
 pub fn run_event(machine: &mut Machine, event: &Event) -> Answer {
     match *event {
         Event::ConfigWrite { bus, device_function, register, enables, data } => {
-            let route = config_route(machine, bus, device_function);
+            let route = config_route(machine, bus, Target::of_write(device_function, register));
             if let Ending::Node(node) = route.ending {
                 machine.write(node, register, enables, data);
             }
             settle(machine, &route, HOST, false)
         }
         Event::ConfigRead { bus, device_function, register } => {
-            let route = config_route(machine, bus, device_function);
+            let route = config_route(machine, bus, Target::of_read(device_function));
             match route.ending {
                 Ending::Node(node) => Answer::Data {
                     crossings: route.crossings.len(),

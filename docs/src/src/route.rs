@@ -37,6 +37,8 @@ pub enum Ending {
     Unclaimed,
     /// Two or more claimants; the first two in agent order.
     Clash(u8, u8),
+    /// A special cycle, which nobody on the bus has to claim.
+    Special,
 }
 
 /// The way of one access.
@@ -116,36 +118,71 @@ fn owner_ending(machine: &Machine, owner: u8, address: Address) -> Ending {
     }
 }
 
-/// The route of a configuration access. "Configuration starts at the host. Bus 0 is
-/// Type 0 on the root bus; others are Type 1".
-pub fn config_route(machine: &Machine, number: u8, device_function: u8) -> Route {
-    if number == 0 {
-        type_0(machine, HOST, device_function, Vec::new())
-    } else {
-        type_1(machine, HOST, number, device_function, Vec::new())
+/// What a configuration access is meant for on the bus that its number names.
+#[derive(Clone, Copy, Debug, PartialEq, Eq)]
+pub enum Target {
+    /// "device times 8 plus function"
+    Function(u8),
+    /// A special cycle: the bus itself.
+    SpecialCycle,
+}
+
+impl Target {
+    /// That of a read, which is never a special cycle.
+    pub fn of_read(device_function: u8) -> Target {
+        Target::Function(device_function)
+    }
+
+    /// That of a write: "A configuration write to device 31, function 7, register 0 is one".
+    pub fn of_write(device_function: u8, register: u8) -> Target {
+        match (device_function >> 3, device_function & 7, register) {
+            (31, 7, 0) => Target::SpecialCycle,
+            _ => Target::Function(device_function),
+        }
     }
 }
 
-/// "Type 0 reaches the node of that device number, function 0, which owns it;
-/// otherwise, and for devices 16 to 31, it is unclaimed."
-fn type_0(machine: &Machine, bus: u8, device_function: u8, crossings: Vec<Crossing>) -> Route {
-    let (device, function) = (device_function >> 3, device_function & 7);
-    let rack = machine.rack();
-    let mut here = rack.numbered().filter(|(_, node)| node.parent == bus);
-    let ending = match here.find(|(_, node)| node.device == device) {
-        Some((node, _)) if function == 0 && device < 16 => Ending::Node(node),
-        _ => Ending::Unclaimed,
+/// The route of a configuration access. "Configuration starts at the host. Bus 0 is
+/// Type 0 on the root bus; others are Type 1".
+pub fn config_route(machine: &Machine, number: u8, target: Target) -> Route {
+    if number == 0 {
+        bus_reached(machine, HOST, target, Vec::new())
+    } else {
+        type_1(machine, HOST, number, target, Vec::new())
+    }
+}
+
+/// What becomes of an access on the bus that its number names. A special cycle is one "on
+/// the root bus for bus 0 and otherwise on the secondary bus where the access would turn
+/// into Type 0"; any other access is Type 0 there.
+fn bus_reached(machine: &Machine, bus: u8, target: Target, crossings: Vec<Crossing>) -> Route {
+    let ending = match target {
+        Target::Function(device_function) => type_0(machine, bus, device_function),
+        Target::SpecialCycle => Ending::Special,
     };
     Route { crossings, bus, driver: bus, ending }
 }
 
+/// "Type 0 reaches the node of that device number, function 0, which owns it;
+/// otherwise, and for devices 16 to 31, it is unclaimed."
+fn type_0(machine: &Machine, bus: u8, device_function: u8) -> Ending {
+    let (device, function) = (device_function >> 3, device_function & 7);
+    let rack = machine.rack();
+    let mut here = rack.numbered().filter(|(_, node)| node.parent == bus);
+    match here.find(|(_, node)| node.device == device) {
+        Some((node, _)) if function == 0 && device < 16 => Ending::Node(node),
+        _ => Ending::Unclaimed,
+    }
+}
+
 /// "Type 1, claimed by each bridge on that bus with secondary ≤ bus ≤ subordinate.
-/// Equal to secondary becomes Type 0 on its secondary bus; else it stays Type 1."
+/// Equal to secondary becomes Type 0 on its secondary bus; else it stays Type 1." For a
+/// special cycle "the claimant count on the way there is as before".
 fn type_1(
     machine: &Machine,
     bus: u8,
     number: u8,
-    device_function: u8,
+    target: Target,
     mut crossings: Vec<Crossing>,
 ) -> Route {
     let ending = match *config_claimants(machine, bus, number).as_slice() {
@@ -153,9 +190,9 @@ fn type_1(
         [bridge] => {
             crossings.push(Crossing { bridge, near: Side::Primary, far: Side::Secondary });
             return if number == BusNumbers::of(machine, bridge).secondary {
-                type_0(machine, bridge, device_function, crossings)
+                bus_reached(machine, bridge, target, crossings)
             } else {
-                type_1(machine, bridge, number, device_function, crossings)
+                type_1(machine, bridge, number, target, crossings)
             };
         }
         [first, second, ..] => Ending::Clash(first, second),
@@ -180,6 +217,8 @@ pub fn settle(machine: &mut Machine, route: &Route, initiator: u8, posted: bool)
         Ending::Clash(first, second) => {
             Answer::Clash { crossings, holder: route.bus, claimants: (first, second) }
         }
+        // "sets no master-abort bit", nor any other
+        Ending::Special => Answer::Special { crossings, holder: route.bus },
     }
 }
 

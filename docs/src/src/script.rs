@@ -227,6 +227,7 @@ fn ending(answer: Answer) -> Given {
         Answer::Clash { crossings, holder, claimants: (a, b) } => {
             numbers(&[6, count(crossings), byte(holder), byte(a), byte(b)])
         }
+        Answer::Special { crossings, holder } => numbers(&[12, count(crossings), byte(holder)]),
         Answer::Silent => numbers(&[7]),
         Answer::Pass => numbers(&[8]),
         Answer::Fault(Fault { holder, kind, value, driver, claimants: (a, b) }) => {

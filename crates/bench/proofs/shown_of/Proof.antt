@@ -33,6 +33,9 @@ enum-known-end-4 c = search needs
 enum-known-end-5 : tie.Need-enum-known-end-5
 enum-known-end-5 c = search needs
 
+enum-known-end-6 : tie.Need-enum-known-end-6
+enum-known-end-6 c = search needs
+
 enum-told : tie.Need-enum-told
 enum-told c = search needs
 
@@ -58,7 +61,11 @@ returns-5 c = simp (c .before .end5 .given .1)
 
 returns-6 : tie.Need-returns-6
 unfolding shownOf
-returns-6 c = simp (c .enum-told .given .1)
+returns-6 c = simp (c .before .end6 .given .1)
+
+returns-7 : tie.Need-returns-7
+unfolding shownOf
+returns-7 c = simp (c .enum-told .given .1)
 
 pub shown-of-spec : {M : Type 1} → statement M
 shown-of-spec =
@@ -74,10 +81,12 @@ shown-of-spec =
     enum-known-end-3
     enum-known-end-4
     enum-known-end-5
+    enum-known-end-6
     enum-told
     returns
     returns-2
     returns-3
     returns-4
     returns-5
-    returns-6)
+    returns-6
+    returns-7)

@@ -8,7 +8,7 @@ use Rattle.register_image.specs.definitions.Image.{Images}
 use Rattle.claim_agent.specs.declared.Space.the-variants as space
 use Rattle.route_bus.specs.declared.Access.{Access}
 use Rattle.route_bus.specs.declared.End.{End}
-use Rattle.route_bus.specs.declared.End.the-variants.{Node, Owner, Host, Unclaimed, Clash, Silent}
+use Rattle.route_bus.specs.declared.End.the-variants.{Node, Owner, Host, Unclaimed, Clash, Special, Silent}
 use Rattle.check_search.specs.declared.Report.{Report}
 use Rattle.check_search.specs.declared.Report.the-variants.{Pass, Fault}
 use Rattle.check_search.specs.definitions.Check.{check}
@@ -20,6 +20,7 @@ shownOf crossings (Owner g r o) = crossings + 1000 * (g + 1)
 shownOf crossings (Host o) = crossings
 shownOf crossings (Unclaimed k o) = crossings
 shownOf crossings (Clash k y z) = crossings
+shownOf crossings (Special k) = crossings
 shownOf crossings Silent = crossings
 
 -- a memory read

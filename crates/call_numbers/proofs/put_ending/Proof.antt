@@ -62,11 +62,20 @@ cast-put-eight-7 c = search needs
 put-eight-requires-6 : tie.Need-put-eight-requires-6
 put-eight-requires-6 c κs = search needs
 
-enum-told-2 : tie.Need-enum-told-2
-enum-told-2 c = search needs
+enum-known-e-6 : tie.Need-enum-known-e-6
+enum-known-e-6 c = search needs
+
+cast-put-eight-8 : tie.Need-cast-put-eight-8
+cast-put-eight-8 c = search needs
 
 put-eight-requires-7 : tie.Need-put-eight-requires-7
 put-eight-requires-7 c κs = search needs
+
+enum-told-2 : tie.Need-enum-told-2
+enum-told-2 c = search needs
+
+put-eight-requires-8 : tie.Need-put-eight-requires-8
+put-eight-requires-8 c κs = search needs
 
 returns : tie.Need-returns
 returns c = rw (c .before .before .before .e .given .1) (c .put-eight .ensures)
@@ -87,7 +96,10 @@ returns-6 : tie.Need-returns-6
 returns-6 c = rw (c .before .before .before .e5 .given .1) (c .put-eight6 .ensures)
 
 returns-7 : tie.Need-returns-7
-returns-7 c = rw (c .before .before .enum-told2 .given .1) (c .put-eight7 .ensures)
+returns-7 c = rw (c .before .before .before .e6 .given .1) (c .put-eight7 .ensures)
+
+returns-8 : tie.Need-returns-8
+returns-8 c = rw (c .before .before .enum-told2 .given .1) (c .put-eight8 .ensures)
 
 pub put-ending-spec : {M : Type 1} → statement M
 put-ending-spec =
@@ -113,12 +125,16 @@ put-ending-spec =
     cast-put-eight-6
     cast-put-eight-7
     put-eight-requires-6
-    enum-told-2
+    enum-known-e-6
+    cast-put-eight-8
     put-eight-requires-7
+    enum-told-2
+    put-eight-requires-8
     returns
     returns-2
     returns-3
     returns-4
     returns-5
     returns-6
-    returns-7)
+    returns-7
+    returns-8)

@@ -1,12 +1,14 @@
 -- What demands 1 and 3 say of calls from C.
 use mathlib.Core.Path.{_≡_}
 use mathlib.Core.List.{List, [], _∷_}
-use Prim.Native.Nat.{ℕ}
+use mathlib.Core.Logic.{_⊎_}
+use Prim.Native.Nat.{ℕ, _≤_}
 use Rattle.register_image.specs.definitions.Image.{Images}
 use Rattle.register_image.specs.definitions.Fixed.{imageRefusal}
 use Rattle.file_record.specs.definitions.Load.{rackAlone}
 use Rattle.muzgante.specs.definitions.Called.{Called, refusedCall, rackRun}
-use lib.ListN.{getD}
+use lib.ListN.{getD, length}
+use Rattle.call_numbers.specs.definitions.Numbers.{eight}
 use Rattle.file_record.specs.definitions.Events.{eventIn}
 use Rattle.demand_calls.specs.definitions.Events.{WritesNone}
 
@@ -32,9 +34,17 @@ pub record InOrder (b : List ℕ) (event : ℕ) (im : Images) (own : ℕ) (a r :
   -- 'a refusal leaves every image untouched', and its answer is all 0
   pub untouched : (r .code ≡ 0 → ⊥) → r ≡ refusedCall (r .code) im
 
--- the first number of an answer: 1 to 7 how an access ended, 8 pass, 9 fault; 0 where the call is refused
+-- the first number of an answer: 1 to 7 and 12 how an access ended, 8 pass, 9 fault; 0 where the call is refused
 abbrev pub number : Called → ℕ
 number r = getD (r .numbers) 0 0
+
+-- the endings that carry their crossings, as their second number
+abbrev pub Carries : ℕ → Type 0
+Carries n = (n ≤ 6) ⊎ (n ≡ 12)
+
+-- 02, E4: 'It ends as `special` with crossings and holder', and no image changes
+abbrev pub specialCall : Images → List ℕ → ℕ → Called
+specialCall im gs holder = record { code = 0; numbers = eight 12 (length gs ∷ holder ∷ []); after = im }
 
 -- the images after one call after another
 unfoldable pub afterCalls : List ℕ → List (List ℕ) → Images → Images

@@ -1,6 +1,7 @@
 -- Demand 3 over the call `rack_run` from C.
 use mathlib.Core.Path.{_≡_, refl, sym, ap, _∙_}
 use mathlib.Core.List.{List}
+use mathlib.Core.Logic.{inl, inr}
 use Prim.Native.Nat.{ℕ, _+_, _^_, _≤_, _<_}
 use native.Mathlib.Omega.{arith}
 use lib.Dec.{eqb}
@@ -17,7 +18,7 @@ use Rattle.file_record.specs.definitions.Events.{eventIn, eventBytes}
 use Rattle.file_record.specs.definitions.Load.{rackAlone}
 use Rattle.file_record.specs.laws.LoadLaws.{alone-accepted, alone-stored}
 use Rattle.event_run.specs.declared.Ending.{Ending}
-use Rattle.event_run.specs.declared.Ending.the-variants.{Data, Stored, Owner, Host, Unclaimed, Clash, Silent}
+use Rattle.event_run.specs.declared.Ending.the-variants.{Data, Stored, Owner, Host, Unclaimed, Clash, Special, Silent}
 use Rattle.event_run.specs.declared.Answer.{Answer}
 use Rattle.event_run.specs.declared.Answer.the-variants.{Ended, Checked}
 use Rattle.call_table.specs.declared.Reply.{Reply}
@@ -31,7 +32,7 @@ use Rattle.demand_calls.specs.definitions.Events.{Fits, replyNumber, Goe
 use Rattle.demand_calls.specs.laws.Going.{event-goes, event-crossings}
 use Rattle.demand_calls.specs.laws.CRefusing.{run-refuses}
 use Rattle.demand_calls.specs.laws.CChecking.{answers, c-check-passed}
-use Rattle.demand_calls.specs.definitions.CCalls.{number}
+use Rattle.demand_calls.specs.definitions.CCalls.{number, Carries}
 
 -- the fields of an event that is read from bytes fit their types
 pub event-fits : (b : List ℕ) → ((k : ℕ) → getD b k 0 < 256) → (o : ℕ) → Fits (eventIn b o)
@@ -56,7 +57,7 @@ first : (r : Reply) → getD (replyNumbers r) 0 0 ≡ replyNumber r
 first (reply.Refused n) = refl
 first (reply.Answered a) = refl
 
-second : (r : Reply) → replyNumber r ≤ 6 → getD (replyNumbers r) 1 0 ≤ crossings r
+second : (r : Reply) → Carries (replyNumber r) → getD (replyNumbers r) 1 0 ≤ crossings r
 second (reply.Refused n) l = le-refl 0
 second (reply.Answered (Ended c e)) l = ending e
   where
@@ -67,32 +68,33 @@ second (reply.Answered (Ended c e)) l = ending e
     ending (Host o) = le-refl c
     ending (Unclaimed h o) = le-refl c
     ending (Clash h x y) = le-refl c
+    ending (Special h) = le-refl c
     ending Silent = omega arith
-second (reply.Answered (Checked Pass)) l = absurd (omega arith)
-second (reply.Answered (Checked (Fault bus space a driver x y))) l = absurd (omega arith)
+second (reply.Answered (Checked Pass)) l = le-refl 0
+second (reply.Answered (Checked (Fault bus space a driver x y))) (inl l) = absurd (omega arith)
+second (reply.Answered (Checked (Fault bus space a driver x y))) (inr l) = absurd (omega arith)
 
 module _ (b event : List ℕ) (im : Images) where
   -- what an accepted run hands back, and what it says
-  handed : rackRun b event im .code ≡ 0
+  pub handed : rackRun b event im .code ≡ 0
       → rackRun b event im ≡ repliedCall (runIn (rackAlone b .tree) im (eventIn event 0))
   unfolding rackRun
   handed c =
       let s = run-refuses b event im .accepted c in
       unless-none _ _ (or-next (rackAlone b .refusal) (eventBytes event) (s .0) ∙ s .1)
 
-  said : rackRun b event im .code ≡ 0
+  pub said : rackRun b event im .code ≡ 0
       → number (rackRun b event im) ≡ replyNumber (runIn (rackAlone b .tree) im (eventIn event 0) .answer)
   said c = ap number (handed c) ∙ first (runIn (rackAlone b .tree) im (eventIn event 0) .answer)
 
-  -- 'The crossings carried in its answer are at most the depth of the starting bus plus the greatest depth in the rack': the endings 1
-  -- to 6 carry them as their second number
-  pub c-run-crossings : rackRun b event im .code ≡ 0 → number (rackRun b event im) ≤ 6
+  -- 'The crossings carried in its answer are at most the depth of the starting bus plus the greatest depth in the rack'
+  pub c-run-crossings : rackRun b event im .code ≡ 0 → Carries (number (rackRun b event im))
       → getD (rackRun b event im .numbers) 1 0
       ≤ depth (rackAlone b .tree) (startBus (rackAlone b .tree) (eventIn event 0)) + greatestDepth (rackAlone b .tree)
   c-run-crossings c l =
       let t = rackAlone b .tree in
       let a = runIn t im (eventIn event 0) .answer in
-      let m : replyNumber a ≤ 6 = omega (arith, said c) in
+      let m : Carries (replyNumber a) = rw (said c) at l in
       omega (arith, event-crossings t (λ ok. alone-stored b (run-refuses b event im .accepted c .0)) im (eventIn event 0), second a m, ap (λ (r : Called). getD (r .numbers) 1 0) (handed c))
 
 -- 'In a passed rack, with the registers it passed with, status bits aside'

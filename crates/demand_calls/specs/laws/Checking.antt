@@ -1,6 +1,6 @@
 -- Demand 3 over the calls `run_check` and `run_event`.
 use mathlib.Core.Path.{_≡_, refl, sym, ap, _∙_}
-use mathlib.Core.Bool.{Bool, true, false, not, _&&_, true≢false}
+use mathlib.Core.Bool.{Bool, true, false, not, _&&_}
 use mathlib.Core.Logic.{inl, inr}
 use Prim.Native.Nat.{ℕ}
 use native.Mathlib.Omega.{arith}
@@ -19,8 +19,6 @@ use Rattle.claim_agent.specs.declared.Space.{Space}
 use Rattle.claim_agent.specs.declared.Space.the-variants as space
 use Rattle.claim_laws.specs.definitions.Same.{SameButStatus}
 use Rattle.route_bus.specs.declared.Access.{Access}
-use Rattle.route_bus.specs.declared.End.{End}
-use Rattle.route_bus.specs.declared.End.the-variants as end
 use Rattle.route_bus.specs.declared.Route.{Route}
 use Rattle.route.specs.definitions.Route.{configure, access}
 use Rattle.check_search.specs.declared.Report.{Report}
@@ -33,13 +31,15 @@ use Rattle.file_record.specs.declared.Event.the-variants.{Write, Read, Memory, 
 use Rattle.file_record.specs.definitions.Events.{initiates, accessWrong, eventWrong}
 use Rattle.event_run.specs.declared.Answer.the-variants.{Checked}
 use Rattle.event_run.specs.definitions.Answers.{answerNumber}
-use Rattle.event_run.specs.definitions.Run.{configuration, addressed, registerOf, endedAt, ended, eventRun}
+use Rattle.event_run.specs.definitions.Run.{configuration, addressed, ended, eventRun}
 use Rattle.call_table.specs.declared.Reply.the-variants.{Refused, Answered}
 use Rattle.call_table.specs.definitions.Call.{refusalBy, eventRefusal, runIn, checkIn}
+use Rattle.route_laws.specs.definitions.Ends.{isClash}
+use Rattle.demand_calls.specs.laws.Numbered.{ended-number}
 use Rattle.demand_calls.specs.laws.Refusing.{accepted, accepts, field-right, event-untouched, event-runs}
 use Rattle.demand_passed.specs.definitions.FirstFault.{FirstFault}
 use Rattle.demand_passed.specs.definitions.OneClaimant.{OneClaimant}
-use Rattle.demand_passed.specs.definitions.Way.{isClash, Initiator}
+use Rattle.demand_passed.specs.definitions.Way.{Initiator}
 use Rattle.demand_calls.specs.definitions.Events.{Fits, replyNumber}
 
 module _ (t : Tree) (im : Images) where
@@ -103,27 +103,14 @@ module _ (t : Tree) where
           let r = both (ltb i (t .count)) _ s in
           inr (ltb-true i (t .count) (r .0), opposite (isBridge (t .node i .kind)) (r .1))
 
--- an access that does not clash does not answer so
-ended-no-clash : (t : Tree) (im : Images) (x : Access) (c : ℕ) (e : End) → isClash e ≡ false
-    → answerNumber (endedAt t im x c e .answer) ≡ 6 → ⊥
-unfolding endedAt registerOf
-ended-no-clash t im x c (end.Node g) q n = by (x .write) refl
-  where
-    by : (b : Bool) → x .write ≡ b → ⊥
-    by true w = let z : _≡_ {A = ℕ} 2 6 = rw w at n in omega arith
-    by false w = let z : _≡_ {A = ℕ} 1 6 = rw w at n in omega arith
-ended-no-clash t im x c (end.Owner g r o) q n = omega arith
-ended-no-clash t im x c (end.Host o) q n = omega arith
-ended-no-clash t im x c (end.Unclaimed k o) q n = omega arith
-ended-no-clash t im x c (end.Clash k y z) q n = true≢false q
-ended-no-clash t im x c end.Silent q n = omega arith
-
 -- a tree that stores what its nodes say, once it is accepted: that of a decoded rack does (`accepted-stored`), as does one that is read
 -- (`alone-stored`)
 module _ (t : Tree) (stored : rackRefusal t ≡ 0 → Stored t) (im im' : Images) (pass : checkIn t im ≡ Answered (Checked Pass))
     (same : SameButStatus t im im') where
+  -- an access that does not clash does not answer so
   routed-no-clash : (x : Access) (o : Result Route) → isClash (o .answer .end) ≡ false → answerNumber (ended t x o .answer) ≡ 6 → ⊥
-  routed-no-clash x o = ended-no-clash t (o .after) x (o .answer .crossings) (o .answer .end)
+  routed-no-clash x o q n =
+      eqb-false _ 6 q (ended-number t (o .after) x (o .answer .crossings) (o .answer .end) n (omega arith))
 
   run-no-clash : (e : Event) → Fits e → rackRefusal t ≡ 0 → Stored t → eventWrong t e ≡ false → check t im ≡ Pass
       → answerNumber (eventRun t im' e .answer) ≡ 6 → ⊥

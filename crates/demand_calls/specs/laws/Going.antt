@@ -70,6 +70,7 @@ ended-crossings t im x c (end.Owner g r o) = refl
 ended-crossings t im x c (end.Host o) = refl
 ended-crossings t im x c (end.Unclaimed k o) = refl
 ended-crossings t im x c (end.Clash k y z) = refl
+ended-crossings t im x c (end.Special k) = refl
 ended-crossings t im x c end.Silent = refl
 
 module _ (t : Tree) (stored : rackRefusal t ≡ 0 → Stored t) (im : Images) where

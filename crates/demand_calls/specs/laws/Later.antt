@@ -1,6 +1,6 @@
 -- Demand 3 over events one after another: those that write no register leave a passed rack passed, whatever status bits they set.
 use mathlib.Core.Path.{_≡_, refl, ap, _∙_}
-use mathlib.Core.Bool.{false, true≢false, _&&_, and-false}
+use mathlib.Core.Bool.{true, false, true≢false, _&&_, and-false}
 use mathlib.Core.List.{List, [], _∷_}
 use Prim.Native.Nat.{ℕ}
 use lib.Dec.{eqb}
@@ -18,7 +18,8 @@ use Rattle.route_bus.specs.declared.End.{End}
 use Rattle.route_bus.specs.declared.End.the-variants as end
 use Rattle.route_bus.specs.definitions.Cross.{isConfiguration}
 use Rattle.route.specs.definitions.Route.{configure, access}
-use Rattle.route_laws.specs.laws.Arrives.{endsAtNode, access-none}
+use Rattle.route_laws.specs.definitions.Ends.{endsAtNode}
+use Rattle.route_laws.specs.laws.Arrives.{node-fails, access-none, cycle-none}
 use Rattle.route_laws.specs.laws.Changes.{access-same, configure-same}
 use Rattle.file_record.specs.declared.Event.{Event}
 use Rattle.file_record.specs.declared.Event.the-variants.{Write, Read, Memory, Io, Check}
@@ -36,6 +37,7 @@ module _ (t : Tree) (im : Images) (x : Access) (c : ℕ) where
   kept-after (end.Host o) off = refl
   kept-after (end.Unclaimed k o) off = refl
   kept-after (end.Clash k y z) off = refl
+  kept-after (end.Special k) off = refl
   kept-after end.Silent off = refl
 
 module _ (t : Tree) (st : Stored t) where
@@ -43,12 +45,15 @@ module _ (t : Tree) (st : Stored t) where
     accessed-same : (x : Access) (i : ℕ) → isConfiguration (x .space) ≡ false → SameButStatus t im (accessed t im x i .after)
     accessed-same x i other =
         let o = access t im x i in
-        rw (kept-after t (o .after) x (o .answer .crossings) (o .answer .end) (ap (λ b. x .write && b) (access-none t x other im i) ∙ and-false (x .write)))
+        rw (kept-after t (o .after) x (o .answer .crossings) (o .answer .end) (ap (λ b. x .write && b) (access-none endsAtNode node-fails refl t x other im i) ∙ and-false (x .write)))
         (access-same t st x im right i)
 
     run-same : (e : Event) → WritesNone e → SameButStatus t im (eventRun t im e .after)
     unfolding eventRun
-    run-same (Write bus devfn register enables put) none = absurd none
+    run-same (Write bus devfn register enables put) cycle =
+        let x = configuration true bus devfn register enables put in
+        let o = configure t im x in
+        rw (kept-after t (o .after) x (o .answer .crossings) (o .answer .end) (cycle-none t im x cycle)) (configure-same t st x im right)
     run-same (Read bus devfn register) none =
         let x = configuration false bus devfn register 0 0 in
         let o = configure t im x in

@@ -1,7 +1,7 @@
 -- An answer is silent only where the event's initiator is a device with command bit 2 clear. The falling number of a route, which ends
 -- like that where it is spent, is never spent, so it shows in no answer.
-use mathlib.Core.Path.{_≡_, refl, sym, ap, _∙_}
-use mathlib.Core.Bool.{Bool, true, false, true≢false}
+use mathlib.Core.Path.{_≡_, ap, _∙_}
+use mathlib.Core.Bool.{true, false}
 use mathlib.Core.Logic.{inl, inr}
 use Prim.Native.Nat.{ℕ, _<_}
 use native.Mathlib.Omega.{arith}
@@ -14,11 +14,10 @@ use Rattle.rack.specs.definitions.Refusal.{rackRefusal}
 use Rattle.register_image.specs.definitions.Image.{Images, Result}
 use Rattle.claim_agent.specs.declared.Space.the-variants as space
 use Rattle.route_bus.specs.declared.Access.{Access}
-use Rattle.route_bus.specs.declared.End.{End}
-use Rattle.route_bus.specs.declared.End.the-variants as end
 use Rattle.route_bus.specs.declared.Route.{Route}
 use Rattle.route.specs.definitions.Route.{drives, configure, access}
-use Rattle.route_laws.specs.laws.Silent.{isSilent, configure-driven, host-driven, access-driven}
+use Rattle.route_laws.specs.definitions.Ends.{isSilent}
+use Rattle.route_laws.specs.laws.Silent.{configure-driven, host-driven, access-driven}
 use Rattle.check_search.specs.declared.Report.{Report}
 use Rattle.check_search.specs.declared.Report.the-variants.{Pass, Fault}
 use Rattle.check_search.specs.definitions.Check.{check}
@@ -28,31 +27,18 @@ use Rattle.file_record.specs.declared.Event.the-variants.{Write, Read, Memory, 
 use Rattle.file_record.specs.definitions.Events.{eventWrong}
 use Rattle.event_run.specs.declared.Answer.the-variants.{Checked}
 use Rattle.event_run.specs.definitions.Answers.{answerNumber}
-use Rattle.event_run.specs.definitions.Run.{configuration, addressed, registerOf, endedAt, ended, eventRun}
+use Rattle.event_run.specs.definitions.Run.{configuration, addressed, ended, eventRun}
 use Rattle.call_table.specs.definitions.Call.{refusalBy, eventRefusal, runIn}
 use Rattle.demand_calls.specs.definitions.Events.{replyNumber, MayNotDrive}
+use Rattle.demand_calls.specs.laws.Numbered.{ended-number}
 use Rattle.demand_calls.specs.laws.Refusing.{accepted, field-right, event-untouched, event-runs}
 use Rattle.demand_calls.specs.laws.Checking.{initiator}
-
--- an answer is silent where its route is
-ended-silent : (t : Tree) (im : Images) (x : Access) (c : ℕ) (e : End) → answerNumber (endedAt t im x c e .answer) ≡ 7 → isSilent e ≡ true
-unfolding endedAt registerOf
-ended-silent t im x c (end.Node g) n = by (x .write) refl
-  where
-    by : (b : Bool) → x .write ≡ b → false ≡ true
-    by true w = let z : _≡_ {A = ℕ} 2 7 = rw w at n in absurd (omega arith)
-    by false w = let z : _≡_ {A = ℕ} 1 7 = rw w at n in absurd (omega arith)
-ended-silent t im x c (end.Owner g r o) n = absurd (omega arith)
-ended-silent t im x c (end.Host o) n = absurd (omega arith)
-ended-silent t im x c (end.Unclaimed k o) n = absurd (omega arith)
-ended-silent t im x c (end.Clash k y z) n = absurd (omega arith)
-ended-silent t im x c end.Silent n = refl
 
 module _ (t : Tree) (ok : rackRefusal t ≡ 0) (st : Stored t) (im : Images) where
   -- of a route that is driven no answer is silent
   driven-not : (x : Access) (o : Result Route) → isSilent (o .answer .end) ≡ false → answerNumber (ended t x o .answer) ≡ 7 → ⊥
   driven-not x o d n =
-      true≢false (sym (ended-silent t (o .after) x (o .answer .crossings) (o .answer .end) n) ∙ d)
+      eqb-false _ 7 d (ended-number t (o .after) x (o .answer .crossings) (o .answer .end) n (omega arith))
 
   started-silent : (x : Access) (i : ℕ) → Initiator t i → answerNumber (ended t x (access t im x i) .answer) ≡ 7
       → (i < t .count) × (drives t im i ≡ false)

@@ -1,4 +1,5 @@
--- Document 01, 'Windows and racks to prove', and the same of older bridges: one table of the definitions, and one theorem over it.
+-- Document 01, 'Windows and racks to prove', and the same of older bridges and special cycles: one table of the definitions, and one
+-- theorem over it.
 use mathlib.Core.Bool.{Bool, true, false, not, _&&_, cond}
 use mathlib.Core.List.{List, [], _∷_, _++_}
 use Prim.Native.Nat.{ℕ, _+_, _-_, _*_, _/_, _%_}
@@ -33,6 +34,10 @@ use Rattle.claim_window.specs.declared.Windows.{Windows}
 use Rattle.claim_window.specs.definitions.Window.{windowsOf}
 use Rattle.claim_window.specs.definitions.Inside.{inMemory, inPrefetchable, insideIo}
 use Prim.Native.String.{String}
+use Rattle.file_record.specs.declared.Event.{Event}
+use Rattle.file_record.specs.declared.Event.the-variants.{Write, Read}
+use Rattle.event_run.specs.definitions.Run.{eventRun}
+use Rattle.print_file.specs.definitions.Output.{answerLine}
 use Rattle.rack.specs.definitions.Refusal.{rackRefusal}
 use Rattle.register_image.specs.definitions.Fixed.{imageRefusal}
 use Rattle.print_line.specs.definitions.Line.{reportLine}
@@ -66,6 +71,8 @@ pub data Row : Type 0 where
   crosses : List Poke → ℕ → Row
   -- a header kind; a status, what is written to it, and the status then
   clears : Kind → ℕ → ℕ → ℕ → Row
+  -- the nodes of a rack without host memory; an event, and the line that is printed for it as event 1
+  ends : List Fitted → Event → String → Row
   -- the nodes of a rack without host memory, which is accepted; what its check says, and the line that is printed as event 1
   checks : List Fitted → Report → String → Row
 
@@ -176,6 +183,7 @@ holds (none-in k w ps) = isEmpty (windowIn (windows k ps) (number w))
 holds (reads k register seen) = eqb (readBack (node k noRegion) (resetPart (node k noRegion)) register) seen
 holds (crosses ps bus) = asType1 (put (node Bridge noRegion) ps) bus
 holds (clears k status put after) = eqb (statusAfter (node k noRegion) status put) after
+holds (ends fs e text) = sameValues (answerLine 1 (eventRun (rackOf fs) (imagesOf fs) e .answer)) (codesOf text)
 holds (checks fs r text) =
     eqb (rackRefusal (rackOf fs)) 0 && eqb (imageRefusal (rackOf fs) (imagesOf fs)) 0
     && sameReport (check (rackOf fs) (imagesOf fs)) r && sameValues (reportLine 1 (check (rackOf fs) (imagesOf fs))) (codesOf text)
@@ -194,6 +202,10 @@ two =
 
 abbrev pub three : List Fitted
 three = two ++ (fitted (nodeOn Device 0 1 noRegion) [] ∷ [])
+
+-- a bridge on the root bus with secondary 5 and subordinate 6
+abbrev pub carrying : List Fitted
+carrying = fitted (nodeOn Bridge host 0 noRegion) (byte 0x19 0x05 ∷ byte 0x1a 0x06 ∷ []) ∷ []
 
 -- the table, each row with its item's number
 abbrev pub rows : List Row
@@ -226,6 +238,16 @@ rows =
     ∷ checks three (Fault 0 Memory 0x90000000 2 0 1) "1 fault 0 memory 0000000090000000 2 0 1\n"
     -- 12: 'The same without device 2: pass'
     ∷ checks two Pass "1 pass\n"
+    -- 02, E4: 'A configuration write to device 31, function 7, register 0 is one', with no byte enabled too
+    ∷ ends carrying (Write 0 0xff 0 0xf 0) "1 special 0 255\n"
+    ∷ ends carrying (Write 5 0xff 0 0 0) "1 special 1 0\n"
+    -- a bus number that nobody carries, or that nobody below has
+    ∷ ends carrying (Write 4 0xff 0 0xf 0) "1 unclaimed 0 255 abort\n"
+    ∷ ends carrying (Write 6 0xff 0 0xf 0) "1 unclaimed 1 0 done\n"
+    -- a read, function 0 and register 4 are none
+    ∷ ends carrying (Read 5 0xff 0) "1 unclaimed 1 0 done\n"
+    ∷ ends carrying (Write 5 0xf8 0 0xf 0) "1 unclaimed 1 0 done\n"
+    ∷ ends carrying (Write 5 0xff 4 0xf 0) "1 unclaimed 1 0 done\n"
     -- 02, E11: 'I/O base and limit reset to 00 with 16-bit I/O'
     ∷ holds-of OlderBridge io [] (0x0 ∷ 0xFFF ∷ []) (0x1000 ∷ 0x10000 ∷ [])
     -- 'I/O at 10000h or above is outside the window', whatever 30h to 33h hold; of a bridge it is in

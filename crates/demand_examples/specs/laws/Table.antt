@@ -3,22 +3,25 @@ use mathlib.Core.Path.{_≡_, refl}
 use mathlib.Core.Bool.{true}
 use Rattle.rack.specs.definitions.Count.{countOf, someFrom}
 use Rattle.register_header.specs.definitions.Mask.{writeMask, clearMask, regionWrite, regionReset, resetByte}
-use Rattle.register_header.specs.definitions.Register.{readRegister, writeByte, writeDword, writeRegister}
+use Rattle.register_header.specs.definitions.Register.{readRegister, writeByte, writeDword, writeRegister, setStatus}
 use Rattle.register_header.specs.definitions.Sizing.{readBack, sizePart}
 use Rattle.register_image.specs.definitions.Reset.{resetFrom}
 use Rattle.rack.specs.definitions.Tree.{nodesFrom, bridgesFrom}
 use Rattle.rack.specs.definitions.Grow.{treeWith, grown}
-use Rattle.register_image.specs.definitions.Image.{nodePart, view}
+use Rattle.register_image.specs.definitions.Image.{nodePart, onPart, view, onNode}
 use Rattle.claim_window.specs.definitions.Area.{areaOf}
 use Rattle.claim_window.specs.definitions.Area as area
 use Rattle.claim_window.specs.definitions.Cut.{cutAt, cutPast, cutIf, cutLow}
 use Rattle.claim_agent.specs.declared.Space.the-variants.{Memory}
 use Rattle.claim_agent.specs.definitions.Agent.{bridgeOf, deviceOf, agentOf}
 use Rattle.claim_agent.specs.definitions.Claim.{primaryClaims, secondaryClaims, deviceClaims, hostClaims, claimsOf, windowsUntil, regionsUntil, untilOf}
-use Rattle.claim_agent.specs.definitions.Claimants.{claimantsIn}
+use Rattle.claim_agent.specs.definitions.Claimants.{claimantsIn, nextFrom}
 use Rattle.claim_agent.specs.definitions.WindowEnds.{windowIn}
-use Rattle.route_bus.specs.definitions.Look.{owned, claimed, look}
-use Rattle.route_bus.specs.definitions.Cross.{turnsType0}
+use Rattle.route_bus.specs.definitions.End.{ifUnclaimed}
+use Rattle.route_bus.specs.definitions.Look.{masterAbort, unclaimed, owned, claimed, target, selects, direct, look}
+use Rattle.route_bus.specs.definitions.Cross.{otherBus, turnsType0, lastOutcome, passed, crossed}
+use Rattle.route.specs.definitions.Route.{busStep, configure}
+use Rattle.event_run.specs.definitions.Run.{endedAt, eventRun}
 use Rattle.check_search.specs.declared.Report.the-variants.{Pass, Fault}
 use Rattle.check_search.specs.definitions.Check.{firstIn, shown, atValue, check}
 use Rattle.check_search.specs.laws.Stretch.{untilAll}
@@ -29,7 +32,7 @@ use Rattle.demand_examples.specs.definitions.Rows.{holds, all, rows, rac
 use Rattle.rack.specs.definitions.First.{first, firstFrom}
 use Rattle.rack.specs.definitions.Refusal.{tooMany, badParent, highDevice, takenDevice, badRegion, nodeRefusal, rackRefusal}
 use Rattle.register_image.specs.definitions.Fixed.{lengthsWrong, byteWrong, imageRefusal}
-use Rattle.print_line.specs.definitions.Line.{reportFields, spaced}
+use Rattle.print_line.specs.definitions.Line.{endingFields, reportFields, spaced}
 use Rattle.print_line.specs.definitions.Text.{hexOf, decimalOf, decimalUpTo, codesOf}
 
 -- the check is a search of every address: what the sweep finds in at most 40 stretches is what it finds (`checked`)
@@ -48,5 +51,5 @@ both-images = (refl, refl)
 
 -- every row holds
 pub table : all rows ≡ true
-unfolding reportFields hexOf decimalOf decimalUpTo codesOf windowIn resetFrom resetByte regionReset regionWrite writeMask clearMask readRegister writeByte writeDword writeRegister readBack sizePart windowsOf insideIo nodesFrom nodePart view bridgeOf agentOf primaryClaims hostClaims claimsOf claimantsIn owned claimed look turnsType0 treeWith grown countOf spaced
+unfolding eventRun endedAt secondaryClaims configure busStep direct selects target nextFrom unclaimed masterAbort onNode onPart setStatus crossed passed ifUnclaimed lastOutcome otherBus endingFields reportFields hexOf decimalOf decimalUpTo codesOf windowIn resetFrom resetByte regionReset regionWrite writeMask clearMask readRegister writeByte writeDword writeRegister readBack sizePart windowsOf insideIo nodesFrom nodePart view bridgeOf agentOf primaryClaims hostClaims claimsOf claimantsIn owned claimed look turnsType0 treeWith grown countOf spaced
 table = rw (found .0, found .1, racks .0, both-images .0, racks .1, both-images .1) refl

@@ -11,16 +11,15 @@ use Rattle.rack.specs.definitions.Tree.{Tree, host, parentOf}
 use Rattle.register_image.specs.definitions.Image.{Images, Result, view}
 use Rattle.claim_agent.specs.declared.Space.the-variants.{Memory, Io, Configuration}
 use Rattle.claim_agent.specs.definitions.Agent.{deviceOf}
-use Rattle.claim_agent.specs.definitions.Claimants.{claimants}
 use Rattle.claim_laws.specs.definitions.Reach.{areaAt, Reach}
 use Rattle.claim_laws.specs.definitions.Same.{SameButStatus}
 use Rattle.route_bus.specs.declared.Access.{Access}
 use Rattle.route_bus.specs.declared.End.{End}
-use Rattle.route_bus.specs.declared.End.the-variants.{Node, Owner, Host, Unclaimed, Clash, Silent}
+use Rattle.route_bus.specs.declared.End.the-variants.{Node, Owner, Host, Unclaimed, Clash, Special, Silent}
 use Rattle.route_bus.specs.declared.Route.{Route}
-use Rattle.route_bus.specs.definitions.Look.{isIo}
-use Rattle.route_bus.specs.definitions.Cross.{otherBus, turnsType0}
+use Rattle.route_bus.specs.definitions.Look.{isIo, isSpecialCycle}
 use Rattle.route.specs.definitions.Route.{drives}
+use Rattle.route_laws.specs.definitions.Path.{claimantsOn, Path}
 
 -- 01: 'An access starts on the bus its initiator sits on, .. one of the host on the root bus'
 unfoldable pub startOf : Tree → ℕ → ℕ
@@ -44,15 +43,6 @@ pub record Silenced (t : Tree) (im : Images) (i : ℕ) (e : End) : Type 0 where
   pub off : drives t im i ≡ false
   pub end : e ≡ Silent
 
--- two or more claim
-abbrev pub isClash : End → Bool
-isClash (Node g) = false
-isClash (Owner g r o) = false
-isClash (Host o) = false
-isClash (Unclaimed k o) = false
-isClash (Clash k y z) = true
-isClash Silent = false
-
 -- node g is the one that Type 0 configuration reaches on a bus: that device number, function 0
 pub record Selected (t : Tree) (bus devfn g : ℕ) : Type 0 where
   pub node : g < t .count
@@ -65,36 +55,33 @@ abbrev pub NoneSelected : Tree → ℕ → ℕ → Type 0
 NoneSelected t bus devfn = (g : ℕ) → Selected t bus devfn g → ⊥
 
 module _ (t : Tree) (im : Images) (x : Access) where
-  -- who claims the access on a bus
-  abbrev pub claimantsOn : ℕ → ℕ → List ℕ
-  claimantsOn bus driver = claimants t im (x .space) bus driver (x .address)
-
   -- the last bus of an access, by its end e and the images u that it leaves: nobody claims what is unclaimed there, the host alone what
   -- reaches its memory, that node alone what it owns, in the lowest region that holds the address, at the offset from that region's
-  -- base; Type 0 ends at the one node of that device number, function 0. Never a clash; what finds its owner changes no image
+  -- base; Type 0 ends at the one node of that device number, function 0. Never a clash; what finds its owner changes no image.
+  -- 02, E4: 'From then on an access in a passed rack may also end this way': a special cycle as Type 0, and it changes none either
   abbrev pub Last : ℕ → ℕ → Bool → End → Images → Type 0
   Last bus driver true (Node g) u = Selected t bus (x .devfn) g × (u ≡ im)
   Last bus driver true (Owner g r o) u = ⊥
   Last bus driver true (Host o) u = ⊥
-  Last bus driver true (Unclaimed k o) u = (k ≡ bus) × NoneSelected t bus (x .devfn)
+  Last bus driver true (Unclaimed k o) u = (k ≡ bus) × NoneSelected t bus (x .devfn) × (isSpecialCycle x ≡ false)
   Last bus driver true (Clash k y z) u = ⊥
+  Last bus driver true (Special k) u = (k ≡ bus) × (isSpecialCycle x ≡ true) × (u ≡ im)
   Last bus driver true Silent u = ⊥
   Last bus driver false (Node g) u = ⊥
   Last bus driver false (Owner g r o) u =
-      (claimantsOn bus driver ≡ g ∷ [])
+      (claimantsOn t im x bus driver ≡ g ∷ [])
       × Reach (deviceOf (t .node g) (view t im g)) (isIo (x .space)) (x .address) r
       × (o ≡ x .address - areaAt (deviceOf (t .node g) (view t im g)) r .range .first) × (u ≡ im)
-  Last bus driver false (Host o) u = (claimantsOn bus driver ≡ host ∷ []) × (o ≡ x .address - t .hostMemory .first) × (u ≡ im)
-  Last bus driver false (Unclaimed k o) u = (k ≡ bus) × (claimantsOn bus driver ≡ [])
+  Last bus driver false (Host o) u = (claimantsOn t im x bus driver ≡ host ∷ []) × (o ≡ x .address - t .hostMemory .first) × (u ≡ im)
+  Last bus driver false (Unclaimed k o) u = (k ≡ bus) × (claimantsOn t im x bus driver ≡ [])
   Last bus driver false (Clash k y z) u = ⊥
+  Last bus driver false (Special k) u = ⊥
   Last bus driver false Silent u = ⊥
 
   -- the bridges that take an access on, from a bus to its last: on every bus that it passes one claims, the bridge that takes it on
-  unfoldable pub Way : ℕ → ℕ → Bool → List ℕ → End → Images → Type 0
-  Way bus driver type0 [] e u = Last bus driver type0 e u
-  Way bus driver type0 (g ∷ gs) e u =
-      (type0 ≡ false) × (claimantsOn bus driver ≡ g ∷ []) × (isBridge (t .node g .kind) ≡ true)
-      × Way (otherBus t bus g) g (turnsType0 t im x bus g) gs e u
+  abbrev pub Way : ℕ → ℕ → Bool → List ℕ → End → Images → Type 0
+  Way bus driver type0 gs e u =
+      (last : ℕ) × (by : ℕ) × (type0' : Bool) × Path t im x bus driver type0 gs last by type0' × Last last by type0' e u
 
   -- an access that has such a way, with as many crossings; the images that it leaves differ from those it found in status bits at most
   abbrev pub Went : ℕ → ℕ → Bool → Result Route → Type 0

@@ -21,14 +21,15 @@ use Rattle.claim_laws.specs.definitions.Same.{SameButStatus}
 use Rattle.route_bus.specs.declared.Access.{Access}
 use Rattle.route_bus.specs.definitions.Cross.{otherBus}
 use Rattle.route.specs.definitions.Route.{drives, from, configure, access}
-use Rattle.route_laws.specs.laws.Takers.{Taken}
+use Rattle.route_laws.specs.definitions.Ends.{isClash}
+use Rattle.route_laws.specs.definitions.Path.{Taken}
 use Rattle.route_laws.specs.laws.Possible.{parent-bus, crossings-le, configure-le}
 use Rattle.check_search.specs.declared.Report.the-variants.{Pass}
 use Rattle.check_search.specs.definitions.Check.{check}
 use Rattle.demand_passed.specs.laws.Clear.{passed}
 use Rattle.demand_passed.specs.laws.Ways.{Gone, from-gone, started-gone, gone-no-clash}
 use Rattle.demand_passed.specs.definitions.OneClaimant.{OneClaimant}
-use Rattle.demand_passed.specs.definitions.Way.{isClash, Went, startOf, Initiator, Address, BusNumber, Silenced}
+use Rattle.demand_passed.specs.definitions.Way.{Went, startOf, Initiator, Address, BusNumber, Silenced}
 use Rattle.register_image.specs.definitions.Fixed.{lengthsWrong}
 use Rattle.route_laws.specs.laws.Changes.{access-same, configure-same}
 

@@ -27,18 +27,21 @@ use Rattle.claim_laws.specs.laws.Reach.{reach}
 use Rattle.route_bus.specs.declared.Access.{Access}
 use Rattle.route_bus.specs.declared.Outcome.{Outcome}
 use Rattle.route_bus.specs.declared.End.{End}
-use Rattle.route_bus.specs.declared.End.the-variants.{Node, Owner, Host, Unclaimed, Clash, Silent}
+use Rattle.route_bus.specs.declared.End.the-variants.{Node, Owner, Host, Unclaimed, Clash, Special, Silent}
 use Rattle.route_bus.specs.declared.Route.{Route}
 use Rattle.route_bus.specs.declared.Sight.{Sight}
 use Rattle.route_bus.specs.declared.Sight.the-variants.{Ends, Crosses}
 use Rattle.route_bus.specs.definitions.End.{ifUnclaimed, ends}
 use Rattle.route_bus.specs.laws.EndLaws.{by-end}
 use Rattle.route_bus.specs.definitions.Look.{isIo, unclaimed, owned, claimed, direct, target, look}
+use Rattle.route_bus.specs.laws.LookLaws.{by-direct}
 use Rattle.route_bus.specs.definitions.Cross.{otherBus, turnsType0, crossed}
 use Rattle.route.specs.definitions.Route.{follow, busStep, bridgeStep, possible, from, returned, started}
-use Rattle.route_laws.specs.laws.Takers.{Taken, Follows, look-follows}
+use Rattle.route_laws.specs.definitions.Ends.{isClash}
+use Rattle.route_laws.specs.definitions.Path.{Taken, claimantsOn, Path}
+use Rattle.route_laws.specs.laws.Takers.{Follows, look-follows}
 use Rattle.route_laws.specs.laws.Possible.{Enough, onward, possible-is}
-use Rattle.demand_passed.specs.definitions.Way.{isClash, Selected, NoneSelected, claimantsOn, Last, Way}
+use Rattle.demand_passed.specs.definitions.Way.{Selected, NoneSelected, Last, Way}
 
 -- in an accepted rack it is the only one
 pub selected-one : (t : Tree) → rackRefusal t ≡ 0 → (bus devfn g k : ℕ) → Selected t bus devfn g → Selected t bus devfn k → g ≡ k
@@ -114,10 +117,7 @@ module _ (t : Tree) (im : Images) (x : Access) where
 
   way-kept : (e e' : End) (u u' : Images) → Kept e e' u u' → (gs : List ℕ) (bus driver : ℕ) (type0 : Bool)
       → Way t im x bus driver type0 gs e u → Way t im x bus driver type0 gs e' u'
-  unfolding Way
-  way-kept e e' u u' k [] bus driver type0 w = k bus driver type0 w
-  way-kept e e' u u' k (g ∷ gs) bus driver type0 w =
-      (w .0, w .1, w .2, way-kept e e' u u' k gs (otherBus t bus g) g (turnsType0 t im x bus g) (w .3))
+  way-kept e e' u u' k gs bus driver type0 w = (w .0, w .1, w .2, w .3, k (w .0) (w .1) (w .2) (w .4))
 
   unclaimed-kept : (k : ℕ) (o o' : Outcome) (u u' : Images) → Kept (Unclaimed k o) (Unclaimed k o') u u'
   unclaimed-kept k o o' u u' bus driver true l = l
@@ -144,24 +144,18 @@ module _ (t : Tree) (im : Images) (x : Access) where
       (w .0, w .1, way-kept e e (o .after) _ (returned-kept _ e (o .after)) (w .0) bus driver type0 (w .2))
 
   ended : (bus driver : ℕ) (type0 : Bool) (e : End) (u : Images) → Last t im x bus driver type0 e u → Gone bus driver type0 (ends e u)
-  unfolding Way
-  ended bus driver type0 e u l = ([], refl, l)
+  unfolding Path
+  ended bus driver type0 e u l = ([], refl, (bus, driver, type0, (refl, refl, refl), l))
 
   -- one bridge more
-  across : (bus driver g : ℕ) (o : Result Route) → claimantsOn t im x bus driver ≡ g ∷ [] → isBridge (t .node g .kind) ≡ true
+  across : (bus driver g : ℕ) (o : Result Route) → claimantsOn t im x bus driver ≡ g ∷ [] → Taken t bus driver g
       → Gone (otherBus t bus g) g (turnsType0 t im x bus g) o → Gone bus driver false (crossed t (o .after) x bus g (o .answer))
-  unfolding Way crossed
-  across bus driver g o one is w =
-      let e = o .answer .end in (
-        g ∷ w .0,
-        omega (arith, w .1),
-        (
-          refl,
-          one,
-          is,
-          way-kept e _ (o .after) _ (passed-kept _ _ e (o .after)) (w .0) (otherBus t bus g) g (turnsType0 t im x bus g) (w .2),
-        ),
-      )
+  unfolding Path crossed
+  across bus driver g o one k w =
+      let n : length (g ∷ w .0) ≡ o .answer .crossings + 1 = omega (arith, w .1) in
+      let e = o .answer .end in
+      let v = way-kept e _ (o .after) _ (passed-kept _ _ e (o .after)) (w .0) (otherBus t bus g) g (turnsType0 t im x bus g) (w .2) in
+      (g ∷ w .0, n, (v .0, v .1, v .2, (refl, one, k, v .3), v .4))
 
   -- never in a clash
   last-no-clash : (bus driver : ℕ) (type0 : Bool) (e : End) (u : Images) → Last t im x bus driver type0 e u → isClash e ≡ false
@@ -171,17 +165,13 @@ module _ (t : Tree) (im : Images) (x : Access) where
   last-no-clash bus driver type0 (Unclaimed k o) u l = refl
   last-no-clash bus driver true (Clash k y z) u l = absurd l
   last-no-clash bus driver false (Clash k y z) u l = absurd l
+  last-no-clash bus driver type0 (Special k) u l = refl
   last-no-clash bus driver type0 Silent u l = refl
-
-  way-no-clash : (gs : List ℕ) (bus driver : ℕ) (type0 : Bool) (e : End) (u : Images) → Way t im x bus driver type0 gs e u
-      → isClash e ≡ false
-  unfolding Way
-  way-no-clash [] bus driver type0 e u w = last-no-clash bus driver type0 e u w
-  way-no-clash (g ∷ gs) bus driver type0 e u w = way-no-clash gs (otherBus t bus g) g (turnsType0 t im x bus g) e u (w .3)
 
   -- an access that went its way did not clash
   pub gone-no-clash : (bus driver : ℕ) (type0 : Bool) (o : Result Route) → Gone bus driver type0 o → isClash (o .answer .end) ≡ false
-  gone-no-clash bus driver type0 o w = way-no-clash (w .0) bus driver type0 (o .answer .end) (o .after) (w .2)
+  gone-no-clash bus driver type0 o w =
+      let v = w .2 in last-no-clash (v .0) (v .1) (v .2) (o .answer .end) (o .after) (v .4)
 
   -- a claimant claims
   claimants-claim : (claim : ℕ → Bool) (driver : ℕ) (l : List ℕ) (g : ℕ) (rest : List ℕ) → claimantsIn claim driver l ≡ g ∷ rest
@@ -207,18 +197,17 @@ module _ (t : Tree) (im : Images) (x : Access) where
       in-region (deviceOf (t .node g) (view t im g)) (x .space) (x .address) (rw (ne-eqb g host ne, is) at c)
 
   module _ (few : t .count ≤ 255) where
-    -- what is seen on a bus with at most one claimant: the last bus, or the one claimant is a bridge that takes the access on
+    -- what is seen on a bus with at most one claimant: the last bus, or a bridge that takes the access on
     abbrev Seeing : ℕ → ℕ → Bool → Sight → Images → Type 0
     Seeing bus driver type0 (Ends e) u = Last t im x bus driver type0 e u
-    Seeing bus driver type0 (Crosses g) u =
-        (type0 ≡ false) × (claimantsOn t im x bus driver ≡ g ∷ []) × (isBridge (t .node g .kind) ≡ true)
+    Seeing bus driver type0 (Crosses g) u = Unit {0}
 
     owned-sees : (bus driver g : ℕ) → claimantsOn t im x bus driver ≡ g ∷ [] → Seeing bus driver false (owned t im x g) im
     unfolding owned
     owned-sees bus driver g one =
         tested (eqb g host) (λ a. rw a (one ∙ ap (λ (k : ℕ). k ∷ []) (eqb-true g host a), refl, refl))
         (λ a.
-        tested (isBridge (t .node g .kind)) (λ b. rw (a, b) (refl, one, b))
+        tested (isBridge (t .node g .kind)) (λ b. rw (a, b) tt)
         (λ b.
         let c = claimants-claim (λ k. claims t im (x .space) bus k (x .address)) driver (agents t bus) g [] one in
         let r = reach (deviceOf (t .node g) (view t im g)) (isIo (x .space)) (x .address) (device-reaches bus g (eqb-false g host a) b c) in
@@ -232,11 +221,11 @@ module _ (t : Tree) (im : Images) (x : Access) where
     claimed-sees bus driver (g ∷ (k ∷ l)) e n = absurd (omega arith)
 
     direct-sees : (bus driver : ℕ) → Seeing bus driver true (direct t im x bus driver .answer) (direct t im x bus driver .after)
-    unfolding direct unclaimed
+    unfolding unclaimed
     direct-sees bus driver =
-        tested (eqb (target t bus (x .devfn)) 255)
-        (λ q. rw q (refl, none-selected t bus (x .devfn) few (eqb-true _ 255 q)))
-        (λ q. rw q (target-selected t bus (x .devfn) (eqb-false _ 255 q), refl))
+        by-direct t im x bus driver (λ r. Seeing bus driver true (r .answer) (r .after)) (λ s. (refl, s, refl))
+        (λ s q. (refl, none-selected t bus (x .devfn) few q, s))
+        (λ s q. (target-selected t bus (x .devfn) q, refl))
 
     look-sees : (bus driver : ℕ) (type0 : Bool) → (type0 ≡ false → length (claimantsOn t im x bus driver) ≤ 1)
         → Seeing bus driver type0 (look t im x bus driver type0 .answer) (look t im x bus driver type0 .after)
@@ -245,12 +234,11 @@ module _ (t : Tree) (im : Images) (x : Access) where
     look-sees bus driver false one = claimed-sees bus driver (claimantsOn t im x bus driver) refl (one refl)
 
     follow-gone : (bus driver : ℕ) (type0 : Bool) (cross : ℕ → Images → Result Route) (s : Sight) (v : Images)
-        → Follows t bus driver im s v → Seeing bus driver type0 s v
-        → ((g : ℕ) → type0 ≡ false → Taken t bus driver g → claimantsOn t im x bus driver ≡ g ∷ [] → isBridge (t .node g .kind) ≡ true
-        → Gone bus driver false (cross g im))
+        → Follows t im x bus driver type0 s v → Seeing bus driver type0 s v
+        → ((g : ℕ) → type0 ≡ false → Taken t bus driver g → claimantsOn t im x bus driver ≡ g ∷ [] → Gone bus driver false (cross g im))
         → Gone bus driver type0 (follow cross s v)
     follow-gone bus driver type0 cross (Ends e) v f s on = ended bus driver type0 e v s
-    follow-gone bus driver type0 cross (Crosses g) v f s on = rw (f .1, s .0) (on g (s .0) (f .0) (s .1) (s .2))
+    follow-gone bus driver type0 cross (Crosses g) v f s on = rw (f .1, f .2) (on g (f .2) (f .0) (f .3))
 
     -- a rule for who may drive on a bus, Type 0 or not, which holds for every bridge that takes the access on; under it an access
     -- that is claimed has one claimant
@@ -265,18 +253,18 @@ module _ (t : Tree) (im : Images) (x : Access) where
           follow-gone bus driver type0 (λ g v. bridgeStep 0 t v x bus g) (look t im x bus driver type0 .answer)
           (look t im x bus driver type0 .after) (look-follows t bus im x driver type0)
           (look-sees bus driver type0 (λ e. one bus driver is (rw e at dr)))
-          (λ g e k c b. absurd (onward t ok bus driver 0 g is en k .left refl))
+          (λ g e k c. absurd (onward t ok bus driver 0 g is en k .left refl))
       gone (suc m) bus driver type0 is en dr =
           let p : suc m + suc m ≡ suc (suc (m + m)) = omega arith in
           rw p
           (follow-gone bus driver type0 (λ g v. bridgeStep (suc (suc (m + m))) t v x bus g) (look t im x bus driver type0 .answer)
           (look t im x bus driver type0 .after) (look-follows t bus im x driver type0)
           (look-sees bus driver type0 (λ e. one bus driver is (rw e at dr)))
-          (λ g e k c b.
+          (λ g e k c.
           let o = onward t ok bus driver (suc m) g is en k in
           let s : suc m - 1 ≡ m = omega arith in
           let r = busStep (suc (m + m)) t im x (otherBus t bus g) g (turnsType0 t im x bus g) in
-          across bus driver g r c b
+          across bus driver g r c k
           (gone m (otherBus t bus g) g (turnsType0 t im x bus g) (o .place) (rw s at (o .enough)) (next bus driver g is (rw e at dr) k))))
 
       -- then an access goes its way from a bus, however it is driven

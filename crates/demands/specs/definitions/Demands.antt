@@ -37,8 +37,8 @@ use Rattle.call_numbers.specs.definitions.Numbers.{eight, zeros}
 use Rattle.muzgante.specs.definitions.Called.{refusedCall, repliedCall, endsCall, rackRun, rackCheck, rackWindow, rackReset}
 use Rattle.demand_passed.specs.definitions.OneClaimant.{OneClaimant}
 use Rattle.demand_passed.specs.definitions.FirstFault.{FirstFault}
-use Rattle.demand_calls.specs.definitions.Events.{Fits, replyNumber, Goes, crossings, startBus, AllWriteNone, afterAll, MayNotDrive}
-use Rattle.demand_calls.specs.definitions.CCalls.{InOrder, AllCallsWriteNone, afterCalls}
+use Rattle.demand_calls.specs.definitions.Events.{Fits, replyNumber, Goes, crossings, startBus, AllWriteNone, afterAll, MayNotDrive, SpecialCycle, specialReply}
+use Rattle.demand_calls.specs.definitions.CCalls.{InOrder, AllCallsWriteNone, afterCalls, Carries}
 use Rattle.demand_calls.specs.definitions.CCalls as c
 
 -- 1. 'Refused, by the numbers in document 01, are an overlong or broken rack file, an impossible tree, a false register image and an
@@ -184,6 +184,9 @@ pub record Demand1 : Type 0 where
 -- whichever party starts it, is never driven, ends unclaimed, or ends at its one owner, and never in a clash. The crossings carried in
 -- its answer are at most the depth of the starting bus plus the greatest depth in the rack.'
 
+-- 02, E4: 'From then on an access in a passed rack may also end this way; the claimant count on the way there is as before': `Goes` has
+-- special cycles among the ends, and says of every bus that an access passed that its one claimant is the bridge that took it on.
+
 -- 02, E11: 'A rack that mixes them is checked and routed under the same guarantee as before': a node of these racks is a device, a bridge
 -- or an older bridge.
 
@@ -228,6 +231,22 @@ pub record CPassed3 (b : List ℕ) (im : Images) : Type 0 where
       → ((k : ℕ) → getD event k 0 < 256) → c.number (rackRun b event im') ≡ 6 → ⊥
   pub later : (events : List (List ℕ)) → AllCallsWriteNone events → SameButStatus (rackAlone b .tree) im (afterCalls b events im)
 
+-- 02, E4: 'A configuration write to device 31, function 7, register 0 is one, on the root bus for bus 0 and otherwise on the secondary bus
+-- where the access would turn into Type 0. It ends as `special` with crossings and holder, and sets no master-abort bit': an accepted
+-- event ends with number 12 exactly where it is that write and its way comes to a Type 0, passed rack or not
+pub record Special3 (rack : Rack) (im : Images) (e : Event) : Type 0 where
+  pub ends : (gs : List ℕ) (holder : ℕ) → refusalBy (tree rack) im (call.eventRefusal (tree rack) e) ≡ 0
+      → SpecialCycle (tree rack) im e gs holder → runIn (tree rack) im e ≡ specialReply im gs holder
+  pub only : replyNumber (runIn (tree rack) im e .answer) ≡ 12
+      → (gs : List ℕ) × (holder : ℕ) × SpecialCycle (tree rack) im e gs holder × (runIn (tree rack) im e ≡ specialReply im gs holder)
+
+pub record CSpecial3 (b event : List ℕ) (im : Images) : Type 0 where
+  pub ends : (gs : List ℕ) (holder : ℕ) → rackRun b event im .code ≡ 0
+      → SpecialCycle (rackAlone b .tree) im (eventIn event 0) gs holder → rackRun b event im ≡ c.specialCall im gs holder
+  pub only : c.number (rackRun b event im) ≡ 12
+      → (gs : List ℕ) × (holder : ℕ) × SpecialCycle (rackAlone b .tree) im (eventIn event 0) gs holder
+      × (rackRun b event im ≡ c.specialCall im gs holder)
+
 pub record Demand3 : Type 0 where
   pub checked : (rack : Rack) (im : Images) → Checked3 rack im
   pub passed : (rack : Rack) (im : Images) → checkIn (tree rack) im ≡ reply.Answered (Checked Pass) → Passed3 rack im
@@ -235,9 +254,11 @@ pub record Demand3 : Type 0 where
       → crossings (runIn (tree rack) im e .answer) ≤ depth (tree rack) (startBus (tree rack) e) + greatestDepth (tree rack)
   -- 'is never driven': an answer is silent, number 7, only where its initiator is a device with command bit 2 clear
   pub silent : (rack : Rack) (im : Images) (e : Event) → replyNumber (runIn (tree rack) im e .answer) ≡ 7 → MayNotDrive (tree rack) im e
+  pub special : (rack : Rack) (im : Images) (e : Event) → Special3 rack im e
   pub c-checked : (b : List ℕ) (im : Images) → CChecked3 b im
   pub c-passed : (b : List ℕ) (im : Images) → c.number (rackCheck b im) ≡ 8 → CPassed3 b im
-  -- the endings 1 to 6 carry their crossings as their second number
-  pub c-crossed : (b event : List ℕ) (im : Images) → rackRun b event im .code ≡ 0 → c.number (rackRun b event im) ≤ 6
+  pub c-special : (b event : List ℕ) (im : Images) → CSpecial3 b event im
+  -- the endings 1 to 6 and 12 carry their crossings as their second number
+  pub c-crossed : (b event : List ℕ) (im : Images) → rackRun b event im .code ≡ 0 → Carries (c.number (rackRun b event im))
       → getD (rackRun b event im .numbers) 1 0
       ≤ depth (rackAlone b .tree) (startBus (rackAlone b .tree) (eventIn event 0)) + greatestDepth (rackAlone b .tree)

@@ -20,12 +20,14 @@ use Rattle.muzgante.specs.definitions.Called.{rackCheck}
 use Rattle.demand_calls.specs.laws.Refusing as refusing
 use Rattle.demand_calls.specs.laws.Sizing.{size-accepted}
 use Rattle.demand_calls.specs.laws.Silent.{event-silent}
+use Rattle.demand_calls.specs.laws.Special.{event-special, event-arrives}
 use Rattle.demand_calls.specs.laws.Checking as checking
 use Rattle.demand_calls.specs.laws.Decoded as decoded
 use Rattle.demand_calls.specs.laws.CRefusing as c-refusing
 use Rattle.demand_calls.specs.laws.CChecking as c-checking
 use Rattle.demand_calls.specs.laws.CGoing as c-going
 use Rattle.demand_calls.specs.laws.CLater as c-later
+use Rattle.demand_calls.specs.laws.CSpecial as c-special
 use Rattle.demand_calls.specs.definitions.CCalls as c
 use Rattle.demands.specs.definitions.Demands as demands
 use Rattle.demands.specs.definitions.Demands.{Demand1, Demand3}
@@ -111,6 +113,11 @@ demand3 =
       passed = passed;
       crossed = decoded.rack-crossings;
       silent = λ rack im. event-silent (tree rack) (accepted-stored rack) im;
+      special = λ rack im e.
+          record {
+            ends = λ gs holder z c. event-arrives (tree rack) im (accepted-stored rack) e gs holder z c;
+            only = event-special (tree rack) im e;
+          };
       c-checked = λ b im.
           record {
             passed = c-checking.c-check-passed b im;
@@ -119,5 +126,7 @@ demand3 =
             shows = c-checking.c-check-shows b im;
           };
       c-passed = c-passed;
+      c-special = λ b event im.
+          record { ends = c-special.c-run-arrives b event im; only = c-special.c-run-special b event im };
       c-crossed = c-going.c-run-crossings;
     }

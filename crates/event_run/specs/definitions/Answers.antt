@@ -4,11 +4,11 @@ use mathlib.Core.List.{List, [], _∷_}
 use Rattle.route_bus.specs.definitions.End.{outcomeNumber}
 use Rattle.check_search.specs.definitions.Report.{reportNumber, reportValues}
 use Rattle.event_run.specs.declared.Ending.{Ending}
-use Rattle.event_run.specs.declared.Ending.the-variants.{Data, Stored, Owner, Host, Unclaimed, Clash, Silent}
+use Rattle.event_run.specs.declared.Ending.the-variants.{Data, Stored, Owner, Host, Unclaimed, Clash, Special, Silent}
 use Rattle.event_run.specs.declared.Answer.{Answer}
 use Rattle.event_run.specs.declared.Answer.the-variants.{Ended, Checked}
 
--- the endings in the order of 'The program'
+-- the endings in the order of 'The program'; past 8 and 9, which are a check's, those of document 02
 abbrev pub endingNumber : Ending → ℕ
 endingNumber (Data v) = 1
 endingNumber Stored = 2
@@ -17,6 +17,7 @@ endingNumber (Host o) = 4
 endingNumber (Unclaimed h o) = 5
 endingNumber (Clash h x y) = 6
 endingNumber Silent = 7
+endingNumber (Special h) = 12
 
 -- the fields of its line, in order; c is the number of crossings
 abbrev pub endingValues : ℕ → Ending → List ℕ
@@ -26,6 +27,7 @@ endingValues c (Owner n r o) = c ∷ n ∷ r ∷ o ∷ []
 endingValues c (Host o) = c ∷ o ∷ []
 endingValues c (Unclaimed h o) = c ∷ h ∷ outcomeNumber o ∷ []
 endingValues c (Clash h x y) = c ∷ h ∷ x ∷ y ∷ []
+endingValues c (Special h) = c ∷ h ∷ []
 endingValues c Silent = []
 
 -- 0 is a refusal's number; then the endings, and those of a check

@@ -16,7 +16,7 @@ use Rattle.check_search.specs.definitions.Check.{check}
 use Rattle.file_record.specs.declared.Event.{Event}
 use Rattle.file_record.specs.declared.Event.the-variants.{Write, Read, Memory, Io, Check}
 use Rattle.event_run.specs.declared.Ending.{Ending}
-use Rattle.event_run.specs.declared.Ending.the-variants.{Data, Stored, Owner, Host, Unclaimed, Clash, Silent}
+use Rattle.event_run.specs.declared.Ending.the-variants.{Data, Stored, Owner, Host, Unclaimed, Clash, Special, Silent}
 use Rattle.event_run.specs.declared.Answer.{Answer}
 use Rattle.event_run.specs.declared.Answer.the-variants.{Ended, Checked}
 
@@ -47,6 +47,7 @@ endedAt t im x crossings (end.Owner node region offset) = answers crossings (Own
 endedAt t im x crossings (end.Host offset) = answers crossings (Host offset) im
 endedAt t im x crossings (end.Unclaimed holder outcome) = answers crossings (Unclaimed holder outcome) im
 endedAt t im x crossings (end.Clash holder first second) = answers crossings (Clash holder first second) im
+endedAt t im x crossings (end.Special holder) = answers crossings (Special holder) im
 endedAt t im x crossings end.Silent = answers crossings Silent im
 
 abbrev pub ended : Tree → Access → Result Route → Result Answer

@@ -8,7 +8,7 @@ use Rattle.claim_agent.specs.declared.Space.the-variants.{Memory, Io, Configura
 use Rattle.route_bus.specs.declared.Outcome.{Outcome}
 use Rattle.route_bus.specs.declared.Outcome.the-variants.{Abort, Done, Target}
 use Rattle.event_run.specs.declared.Ending.{Ending}
-use Rattle.event_run.specs.declared.Ending.the-variants.{Data, Stored, Owner, Host, Unclaimed, Clash, Silent}
+use Rattle.event_run.specs.declared.Ending.the-variants.{Data, Stored, Owner, Host, Unclaimed, Clash, Special, Silent}
 use Rattle.check_search.specs.declared.Report.{Report}
 use Rattle.check_search.specs.declared.Report.the-variants.{Pass, Fault}
 use Rattle.print_line.specs.declared.Line.{Line}
@@ -46,7 +46,7 @@ spaceWord Io = codesOf "io"
 
 -- 01: '`data` crossings and 8 hex digits; `stored` crossings; `owner` crossings, node, region, offset (16 hex digits); `host` crossings,
 -- offset from its first address (16 too); `unclaimed` crossings, holder, then `abort` (no crossing), `done` or `target`; `clash` crossings,
--- holder, the first two claimants in agent order; `silent`'
+-- holder, the first two claimants in agent order; `silent`'. 02, E4: '`special` with crossings and holder'
 unfoldable pub endingFields : ℕ → Ending → List (List ℕ)
 endingFields crossings (Data value) = codesOf "data" ∷ decimalOf crossings ∷ hexOf 8 value ∷ []
 endingFields crossings Stored = codesOf "stored" ∷ decimalOf crossings ∷ []
@@ -54,6 +54,7 @@ endingFields crossings (Owner node region offset) = codesOf "owner" ∷ decimalO
 endingFields crossings (Host offset) = codesOf "host" ∷ decimalOf crossings ∷ hexOf 16 offset ∷ []
 endingFields crossings (Unclaimed holder outcome) = codesOf "unclaimed" ∷ decimalOf crossings ∷ decimalOf holder ∷ outcomeWord outcome ∷ []
 endingFields crossings (Clash holder first second) = codesOf "clash" ∷ decimalOf crossings ∷ decimalOf holder ∷ decimalOf first ∷ decimalOf second ∷ []
+endingFields crossings (Special holder) = codesOf "special" ∷ decimalOf crossings ∷ decimalOf holder ∷ []
 endingFields crossings Silent = codesOf "silent" ∷ []
 
 -- 01: '`pass`; `fault` holder, `config`/`memory`/`io`, value (16 hex digits), driver, two agents'

@@ -4,16 +4,16 @@ use borrow.Author.Needs.{needs}
 use Rattle.route_bridge.proofs.other_bus.Statement.{statement}
 use Rattle.route_bridge.proofs.other_bus.Tie as tie
 
+returns : tie.Need-returns
+unfolding otherBus
+returns c = simp (ne-eqb _ _ (c .if1 .taken))
+
 node-at-requires : tie.Need-node-at-requires
 node-at-requires c κs = search needs
 
-returns : tie.Need-returns
-unfolding otherBus
-returns c = simp (eq-eqb _ _ (c .before .if1 .taken), c .node-at .ensures)
-
 returns-2 : tie.Need-returns-2
 unfolding otherBus
-returns-2 c = simp (ne-eqb _ _ (c .if1 .left))
+returns-2 c = simp (eq-eqb _ _ (c .before .if1 .left), c .node-at .ensures)
 
 pub other-bus-spec : {M : Type 1} → statement M
-other-bus-spec = tie.close (tie.spec node-at-requires returns returns-2)
+other-bus-spec = tie.close (tie.spec returns node-at-requires returns-2)

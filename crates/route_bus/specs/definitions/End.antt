@@ -4,7 +4,7 @@ use Rattle.register_image.specs.definitions.Image.{Images, Result, gives}
 use Rattle.route_bus.specs.declared.Outcome.{Outcome}
 use Rattle.route_bus.specs.declared.Outcome.the-variants.{Abort, Done, Target}
 use Rattle.route_bus.specs.declared.End.{End}
-use Rattle.route_bus.specs.declared.End.the-variants.{Node, Owner, Host, Unclaimed, Clash, Silent}
+use Rattle.route_bus.specs.declared.End.the-variants.{Node, Owner, Host, Unclaimed, Clash, Special, Silent}
 use Rattle.route_bus.specs.declared.Route.{Route}
 
 -- what is made of an unclaimed access, and of every other
@@ -14,6 +14,7 @@ ifUnclaimed f other (Owner g r o) = other
 ifUnclaimed f other (Host o) = other
 ifUnclaimed f other (Unclaimed holder o) = f holder o
 ifUnclaimed f other (Clash holder y z) = other
+ifUnclaimed f other (Special holder) = other
 ifUnclaimed f other Silent = other
 
 -- an end that was reached without a crossing

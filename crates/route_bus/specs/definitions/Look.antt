@@ -1,5 +1,5 @@
 -- What a bus does with an access.
-use Prim.Native.Nat.{ℕ, _-_, _/_, _%_}
+use Prim.Native.Nat.{ℕ, _+_, _-_, _*_, _/_, _%_}
 use mathlib.Core.Bool.{Bool, true, false, _&&_, cond}
 use lib.Dec.{eqb}
 use Rattle.rack.specs.definitions.Node.{isBridge}
@@ -17,7 +17,7 @@ use Rattle.claim_agent.specs.definitions.Claim.{reached, offsetIn}
 use Rattle.claim_agent.specs.definitions.Claimants.{claimants, firstTwo, nextFrom}
 use Rattle.route_bus.specs.declared.Access.{Access}
 use Rattle.route_bus.specs.declared.Outcome.the-variants.{Abort}
-use Rattle.route_bus.specs.declared.End.the-variants.{Node, Owner, Host, Unclaimed, Clash}
+use Rattle.route_bus.specs.declared.End.the-variants.{Node, Owner, Host, Unclaimed, Clash, Special}
 use Rattle.route_bus.specs.declared.Sight.{Sight}
 use Rattle.route_bus.specs.declared.Sight.the-variants.{Ends, Crosses}
 
@@ -61,10 +61,19 @@ target t bus devfn =
     255
 
 -- 01: 'which owns it; otherwise .. it is unclaimed'. Its register is read or written where the event is run
-unfoldable pub direct : Tree → Images → Access → ℕ → ℕ → Result Sight
-direct t im x bus driver =
+unfoldable pub selects : Tree → Images → Access → ℕ → ℕ → Result Sight
+selects t im x bus driver =
     cond (eqb (target t bus (x .devfn)) 255) (unclaimed t im bus driver)
     (gives (Ends (Node (target t bus (x .devfn)))) im)
+
+-- 02, E4: 'A configuration write to device 31, function 7, register 0 is one'
+abbrev pub isSpecialCycle : Access → Bool
+isSpecialCycle x = x .write && (eqb (x .devfn) (31 * 8 + 7) && eqb (x .register) 0)
+
+-- 02, E4: 'on the root bus for bus 0 and otherwise on the secondary bus where the access would turn into Type 0. It ends as `special` ..
+-- and sets no master-abort bit'
+unfoldable pub direct : Tree → Images → Access → ℕ → ℕ → Result Sight
+direct t im x bus driver = cond (isSpecialCycle x) (gives (Ends (Special bus)) im) (selects t im x bus driver)
 
 -- a bus, for an access that is Type 0 configuration there or is claimed
 unfoldable pub look : Tree → Images → Access → ℕ → ℕ → Bool → Result Sight

@@ -3,7 +3,7 @@ use mathlib.Core.Path.{_≡_, refl}
 use Prim.Native.Nat.{ℕ}
 use Rattle.route_bus.specs.declared.Outcome.{Outcome}
 use Rattle.route_bus.specs.declared.End.{End}
-use Rattle.route_bus.specs.declared.End.the-variants.{Node, Owner, Host, Unclaimed, Clash, Silent}
+use Rattle.route_bus.specs.declared.End.the-variants.{Node, Owner, Host, Unclaimed, Clash, Special, Silent}
 use Rattle.route_bus.specs.definitions.End.{ifUnclaimed}
 
 pub by-end : {P : Type 0} (e : End) → ((holder : ℕ) (o : Outcome) → e ≡ Unclaimed holder o → P)
@@ -14,4 +14,5 @@ by-end (Owner g r o) u v = v (λ A f other. refl)
 by-end (Host o) u v = v (λ A f other. refl)
 by-end (Unclaimed holder o) u v = u holder o refl
 by-end (Clash holder y z) u v = v (λ A f other. refl)
+by-end (Special holder) u v = v (λ A f other. refl)
 by-end Silent u v = v (λ A f other. refl)

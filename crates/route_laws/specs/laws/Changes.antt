@@ -27,7 +27,8 @@ use Rattle.route_bus.specs.declared.Sight.{Sight}
 use Rattle.route_bus.specs.declared.Sight.the-variants.{Ends, Crosses}
 use Rattle.route_bus.specs.definitions.End.{ifUnclaimed}
 use Rattle.route_bus.specs.laws.EndLaws.{by-end}
-use Rattle.route_bus.specs.definitions.Look.{sideOn, masterAbort, unclaimed, claimed, direct, target, look}
+use Rattle.route_bus.specs.definitions.Look.{sideOn, masterAbort, unclaimed, claimed, direct, look}
+use Rattle.route_bus.specs.laws.LookLaws.{by-direct}
 use Rattle.route_bus.specs.definitions.Cross.{otherBus, turnsType0, towardsLater, lastOutcome, signalled, lastImages, passed, passedImages, crossed}
 use Rattle.route.specs.definitions.Route.{drives, follow, busStep, bridgeStep, possible, from, configure, received, returned, access}
 
@@ -47,9 +48,9 @@ module _ (t : Tree) (x : Access) (R : Images → Images → Type 0) (stay : (im 
   claimed-keeps im bus driver (Two y z) = stay im
 
   direct-keeps : (im : Images) (bus driver : ℕ) → R im (direct t im x bus driver .after)
-  unfolding direct unclaimed
+  unfolding unclaimed
   direct-keeps im bus driver =
-      tested (eqb (target t bus (x .devfn)) 255) (λ q. rw q (abort-keeps im bus driver)) (λ q. rw q (stay im))
+      by-direct t im x bus driver (λ r. R im (r .after)) (λ s. stay im) (λ s q. abort-keeps im bus driver) (λ s q. stay im)
 
   look-keeps : (im : Images) (bus driver : ℕ) (type0 : Bool) → R im (look t im x bus driver type0 .after)
   unfolding look

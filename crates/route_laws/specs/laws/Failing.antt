@@ -22,7 +22,8 @@ use Rattle.route_bus.specs.laws.EndLaws.{by-end}
 use Rattle.route_bus.specs.definitions.Look.{unclaimed, owned, claimed}
 use Rattle.route_bus.specs.definitions.Cross.{passed, passedEnd}
 use Rattle.route.specs.definitions.Route.{follow}
-use Rattle.route_laws.specs.laws.Takers.{Taken, Follows}
+use Rattle.route_laws.specs.definitions.Path.{Taken}
+use Rattle.route_laws.specs.laws.Takers.{Follows}
 
 pub record Failing (is : End → Bool) : Type 0 where
   pub owner : (g r o : ℕ) → is (Owner g r o) ≡ false
@@ -36,11 +37,11 @@ module _ (is : End → Bool) where
   Fails (Ends e) = is e ≡ false
   Fails (Crosses g) = Unit {0}
 
-  pub follow-fails : (t : Tree) (im : Images) (bus driver : ℕ) (cross : ℕ → Images → Result Route) (s : Sight) (v : Images)
-      → Follows t bus driver im s v → Fails s → ((g : ℕ) → Taken t bus driver g → is (cross g im .answer .end) ≡ false)
+  pub follow-fails : (t : Tree) (im : Images) (x : Access) (bus driver : ℕ) (type0 : Bool) (cross : ℕ → Images → Result Route)
+      (s : Sight) (v : Images) → Follows t im x bus driver type0 s v → Fails s → ((g : ℕ) → Taken t bus driver g → is (cross g im .answer .end) ≡ false)
       → is (follow cross s v .answer .end) ≡ false
-  follow-fails t im bus driver cross (Ends e) v f s b = s
-  follow-fails t im bus driver cross (Crosses g) v f s b = rw (f .1) (b g (f .0))
+  follow-fails t im x bus driver type0 cross (Ends e) v f s b = s
+  follow-fails t im x bus driver type0 cross (Crosses g) v f s b = rw (f .1) (b g (f .0))
 
   module _ (fails : Failing is) (t : Tree) (im : Images) (x : Access) where
     pub passed-is : (bus g : ℕ) (e : End) → is (passedEnd t im x bus g e) ≡ is e

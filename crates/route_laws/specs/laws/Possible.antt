@@ -18,7 +18,8 @@ use Rattle.route_bus.specs.definitions.Look.{look}
 use Rattle.route_bus.specs.definitions.Cross.{otherBus, turnsType0, crossed}
 use Rattle.route.specs.definitions.Route.{busStep, bridgeStep, possible, from, configure}
 use Rattle.route.specs.laws.StepLaws.{bus-le}
-use Rattle.route_laws.specs.laws.Takers.{Taken, look-follows, follow-same}
+use Rattle.route_laws.specs.definitions.Path.{Taken}
+use Rattle.route_laws.specs.laws.Takers.{look-follows, follow-same}
 
 -- the crossings that are possible by the depths that are stored are those of the depths themselves
 pub possible-is : (t : Tree) → Stored t → (bus : ℕ) → IsBus t bus → possible t bus ≡ depth t bus + greatestDepth t
@@ -82,18 +83,18 @@ module _ (t : Tree) (ok : rackRefusal t ≡ 0) where
         → busStep (suc (m + m)) t im x bus driver type0 ≡ busStep (suc (m' + m')) t im x bus driver type0
     unfolding busStep
     steps-same zero m' im bus driver type0 is a b =
-        follow-same t bus driver im (λ g v. bridgeStep 0 t v x bus g) (λ g v. bridgeStep (m' + m') t v x bus g)
+        follow-same t im x bus driver type0 (λ g v. bridgeStep 0 t v x bus g) (λ g v. bridgeStep (m' + m') t v x bus g)
         (look t im x bus driver type0 .answer) (look t im x bus driver type0 .after) (look-follows t bus im x driver type0)
         (λ g k. absurd (onward bus driver 0 g is a k .left refl))
     steps-same (suc m) zero im bus driver type0 is a b =
-        follow-same t bus driver im (λ g v. bridgeStep (suc m + suc m) t v x bus g) (λ g v. bridgeStep 0 t v x bus g)
+        follow-same t im x bus driver type0 (λ g v. bridgeStep (suc m + suc m) t v x bus g) (λ g v. bridgeStep 0 t v x bus g)
         (look t im x bus driver type0 .answer) (look t im x bus driver type0 .after) (look-follows t bus im x driver type0)
         (λ g k. absurd (onward bus driver 0 g is b k .left refl))
     steps-same (suc m) (suc m') im bus driver type0 is a b =
         let p : suc m + suc m ≡ suc (suc (m + m)) = omega arith in
         let p' : suc m' + suc m' ≡ suc (suc (m' + m')) = omega arith in
         rw (p, p')
-        (follow-same t bus driver im (λ g v. bridgeStep (suc (suc (m + m))) t v x bus g)
+        (follow-same t im x bus driver type0 (λ g v. bridgeStep (suc (suc (m + m))) t v x bus g)
         (λ g v. bridgeStep (suc (suc (m' + m'))) t v x bus g) (look t im x bus driver type0 .answer)
         (look t im x bus driver type0 .after) (look-follows t bus im x driver type0)
         (λ g k.

@@ -6,7 +6,6 @@ use Prim.Native.Nat.{ℕ, zero, suc, _+_, _-_, _<_}
 use native.Mathlib.Omega.{arith}
 use lib.Dec.{eqb}
 use borrow.Author.Tests.{ne-eqb}
-use Rattle.rack.specs.laws.Bools.{tested}
 use Rattle.rack.specs.definitions.Tree.{Tree, host, parentOf, IsBus}
 use Rattle.rack.specs.definitions.Stored.{Stored}
 use Rattle.rack.specs.definitions.Refusal.{rackRefusal}
@@ -14,24 +13,16 @@ use Rattle.rack_laws.specs.laws.Sound.{not-host}
 use Rattle.register_image.specs.definitions.Image.{Images}
 use Rattle.claim_agent.specs.definitions.Claimants.{claimants, firstTwo}
 use Rattle.route_bus.specs.declared.Access.{Access}
-use Rattle.route_bus.specs.declared.End.{End}
-use Rattle.route_bus.specs.declared.End.the-variants.{Node, Owner, Host, Unclaimed, Clash, Silent}
+use Rattle.route_bus.specs.declared.End.the-variants.{Silent}
 use Rattle.route_bus.specs.definitions.End.{ends}
-use Rattle.route_bus.specs.definitions.Look.{unclaimed, target, direct, look}
+use Rattle.route_bus.specs.definitions.Look.{unclaimed, look}
+use Rattle.route_bus.specs.laws.LookLaws.{by-direct}
 use Rattle.route_bus.specs.definitions.Cross.{otherBus, turnsType0, crossed}
 use Rattle.route.specs.definitions.Route.{drives, busStep, bridgeStep, possible, from, configure, access}
+use Rattle.route_laws.specs.definitions.Ends.{isSilent}
 use Rattle.route_laws.specs.laws.Takers.{look-follows}
 use Rattle.route_laws.specs.laws.Failing.{Failing, Fails, passed-is, claimed-fails, follow-fails}
 use Rattle.route_laws.specs.laws.Possible.{Enough, onward, parent-bus, possible-is}
-
--- nothing was driven
-abbrev pub isSilent : End → Bool
-isSilent (Node g) = false
-isSilent (Owner g r o) = false
-isSilent (Host o) = false
-isSilent (Unclaimed holder o) = false
-isSilent (Clash holder y z) = false
-isSilent Silent = true
 
 -- a device whose command bit 2 is clear drives nothing, and nothing changes
 pub access-silent : (t : Tree) (im : Images) (x : Access) (i : ℕ) → (i ≡ host → ⊥)
@@ -44,8 +35,9 @@ silent-fails = record { owner = λ g r o. refl; at-host = λ o. refl; unclaimed 
 
 look-driven : (t : Tree) (im : Images) (x : Access) (bus driver : ℕ) (type0 : Bool)
     → Fails isSilent (look t im x bus driver type0 .answer)
-unfolding look direct unclaimed
-look-driven t im x bus driver true = tested (eqb (target t bus (x .devfn)) 255) (λ q. rw q refl) (λ q. rw q refl)
+unfolding look unclaimed
+look-driven t im x bus driver true =
+    by-direct t im x bus driver (λ r. Fails isSilent (r .answer)) (λ s. refl) (λ s q. refl) (λ s q. refl)
 look-driven t im x bus driver false =
     claimed-fails isSilent silent-fails t im x bus driver (firstTwo (claimants t im (x .space) bus driver (x .address)))
 
@@ -54,13 +46,13 @@ module _ (t : Tree) (ok : rackRefusal t ≡ 0) (x : Access) where
       → isSilent (busStep (suc (m + m)) t im x bus driver type0 .answer .end) ≡ false
   unfolding busStep crossed
   steps-driven zero im bus driver type0 is a =
-      follow-fails isSilent t im bus driver (λ g v. bridgeStep 0 t v x bus g) (look t im x bus driver type0 .answer)
+      follow-fails isSilent t im x bus driver type0 (λ g v. bridgeStep 0 t v x bus g) (look t im x bus driver type0 .answer)
       (look t im x bus driver type0 .after) (look-follows t bus im x driver type0) (look-driven t im x bus driver type0)
       (λ g k. absurd (onward t ok bus driver 0 g is a k .left refl))
   steps-driven (suc m) im bus driver type0 is a =
       let p : suc m + suc m ≡ suc (suc (m + m)) = omega arith in
       rw p
-      (follow-fails isSilent t im bus driver (λ g v. bridgeStep (suc (suc (m + m))) t v x bus g) (look t im x bus driver type0 .answer)
+      (follow-fails isSilent t im x bus driver type0 (λ g v. bridgeStep (suc (suc (m + m))) t v x bus g) (look t im x bus driver type0 .answer)
       (look t im x bus driver type0 .after) (look-follows t bus im x driver type0) (look-driven t im x bus driver type0)
       (λ g k.
       let o = onward t ok bus driver (suc m) g is a k in

@@ -111,6 +111,11 @@ impl File {
         self.raw(&[4, bus, device << 3, register, enables]).raw(&data.to_le_bytes())
     }
 
+    /// A special cycle: configuration write to device 31, function 7, register 0.
+    pub fn special(self, bus: u8) -> File {
+        self.raw(&[4, bus, 31 << 3 | 7, 0, 15, 0x78, 0x56, 0x34, 0x12])
+    }
+
     pub fn get(self, bus: u8, device: u8, register: u8) -> File {
         self.raw(&[5, bus, device << 3, register])
     }

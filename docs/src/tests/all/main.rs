@@ -11,3 +11,4 @@ mod refusals;
 mod registers;
 mod routes;
 mod script;
+mod special;

@@ -61,7 +61,8 @@ fn every_ending_once() {
         .put(0, 3, 0x10, 0xABCD_E000)
         .put(0, 3, 0x04, 0x0000_0002)
         .memory(255, 1, 0xABCD_EFFF)
-        .check();
+        .check()
+        .special(0);
     let expected = [
         "1 data 0 00205678",
         "2 stored 0",
@@ -77,6 +78,7 @@ fn every_ending_once() {
         "12 stored 0",
         "13 clash 0 255 1 2",
         "14 fault 255 memory 00000000ABCDE000 255 1 2",
+        "15 special 0 255",
     ];
     assert_eq!(file.output(), expected.join("\n") + "\n");
 }

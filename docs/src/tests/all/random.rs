@@ -57,6 +57,11 @@ pub fn records(random: &mut Random) -> Vec<u8> {
         let kind = random.pick(&[4, 4, 4, 5, 6, 7, 8]);
         bytes.push(kind);
         match kind {
+            4 if random.one_in(10) => {
+                // A special cycle.
+                bytes.extend([bus, 0xFF, 0, random.below(16) as u8]);
+                bytes.extend(random.bytes(4));
+            }
             4 => {
                 bytes.extend([bus, device, register, random.pick(&[15, 15, 15, 1, 6])]);
                 bytes.extend(match random.below(3) {

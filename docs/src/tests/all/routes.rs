@@ -2,15 +2,15 @@
 
 use crate::build::{only, status, File, EDITIONS, NO_REGIONS};
 
-const B13: u16 = 1 << 13;
-const B12: u16 = 1 << 12;
-const B11: u16 = 1 << 11;
+pub const B13: u16 = 1 << 13;
+pub const B12: u16 = 1 << 12;
+pub const B11: u16 = 1 << 11;
 
 /// Host memory 10000000h to 1FFFFFFFh. Two branches of two bridges each:
 /// root: 0 (dev 0), 1 (dev 1); 2 below 0; 3 below 1;
 /// devices: 4 below 2, 5 below 3, 6 on the root bus. Each has 4 KiB of memory and 16 bytes of I/O.
 /// Bus numbers: 0: 1 to 2, 2: 2, 1: 3 to 4, 3: 4.
-fn rack() -> File {
+pub fn rack() -> File {
     let regions = [(0, 0), (2, 12), (1, 4)];
     File::host(0x1000_0000, 0x1FFF_FFFF)
         .bridge(255, 0)
@@ -32,7 +32,7 @@ const PLACES: [(u8, u8); 7] = [(0, 0), (0, 1), (1, 0), (3, 0), (2, 7), (4, 7), (
 /// Opens windows: branch 0 has 80000000h to 800FFFFFh and I/O 8000h to 8FFFh, branch 1
 /// has 90000000h and 9000h; device 4 at 80001000h and 8010h, 5 at 90001000h and 9010h,
 /// 6 at A0000000h and A000h. All commands are 7.
-fn open(control: u32) -> File {
+pub fn open(control: u32) -> File {
     let mut file = rack();
     for (bridge, memory, io) in [
         (0, 0x8000_8000, 0x8080),
@@ -68,7 +68,7 @@ fn marks(file: &File) -> Vec<(u8, u16, u16)> {
 
 /// The file with each of its bridges (nodes 0 to 3) of either kind. What the tests below
 /// write and reach is the same in both.
-fn mixes(file: &File) -> Vec<File> {
+pub fn mixes(file: &File) -> Vec<File> {
     let mix = |set: u8| {
         let mut file = file.clone();
         for bridge in (0..4).filter(|bridge| set >> bridge & 1 == 1) {
@@ -80,7 +80,7 @@ fn mixes(file: &File) -> Vec<File> {
 }
 
 /// An event's line, and the marks after it.
-fn goes(file: File, line: &str, expected: &[(u8, u16, u16)]) {
+pub fn goes(file: File, line: &str, expected: &[(u8, u16, u16)]) {
     for file in mixes(&file) {
         assert_eq!(file.last(), line);
         assert_eq!(marks(&file), expected, "marks of {line}");
@@ -323,6 +323,17 @@ fn configuration_type_1_ends_inside() {
     goes(file.get(2, 7, 0), "unclaimed 0 255 abort", &[]);
 }
 
+/// Bridge 0, and below it two bridges that both carry bus F0h.
+pub fn twice_carried() -> File {
+    File::new()
+        .bridge(255, 0)
+        .bridge(0, 3)
+        .bridge(0, 1)
+        .put(0, 0, 0x18, 0x00FF_0100)
+        .put(1, 3, 0x18, 0x00FF_F000)
+        .put(1, 1, 0x18, 0x00F0_0200)
+}
+
 #[test]
 fn configuration_clash() {
     let file = || rack().put(0, 1, 0x18, 0x0004_0200);
@@ -330,13 +341,7 @@ fn configuration_clash() {
     goes(file().put(2, 7, 4, 7), "clash 0 255 0 1", &[]);
     assert_eq!(file().check().last(), "fault 255 config 0000000000000002 255 0 1");
     // Below a bridge.
-    let file = File::new()
-        .bridge(255, 0)
-        .bridge(0, 3)
-        .bridge(0, 1)
-        .put(0, 0, 0x18, 0x00FF_0100)
-        .put(1, 3, 0x18, 0x00FF_F000)
-        .put(1, 1, 0x18, 0x00F0_0200);
+    let file = twice_carried();
     assert_eq!(file.clone().get(0xF0, 0, 0).last(), "clash 1 0 1 2");
     assert_eq!(file.check().last(), "fault 0 config 00000000000000F0 0 1 2");
 }

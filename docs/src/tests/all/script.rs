@@ -550,6 +550,9 @@ fn every_ending() {
     run(file(), none().memory(255, 0, 0), &[5, 0, 255, 0]);
     run(file(), none().get(6, 4, 0), &[5, 1, 0, 1]);
     run(file().put(0, 0, 0x3C, 0x20_0000), none().get(6, 4, 0), &[5, 1, 0, 2]);
+    run(file(), none().special(0), &[12, 0, 255]);
+    run(file(), none().special(6), &[12, 1, 0]);
+    run(file(), none().special(7), &[5, 1, 0, 1]);
     run(file(), none().memory(2, 0, 0), &[7]);
     run(file(), none().check(), &[8]);
     let clash = || file().put(0, 2, 0x10, 0xABCD_E000).put(0, 2, 4, 2);
@@ -587,6 +590,7 @@ fn line(n: &[u64]) -> String {
             let space = ["memory", "io", "config"][n[2] as usize];
             format!("fault {} {space} {:016X} {} {} {}", n[1], n[3], n[4], n[5], n[6])
         }
+        12 => format!("special {} {}", n[1], n[2]),
         other => panic!("ending {other}"),
     }
 }
@@ -601,12 +605,13 @@ fn random_file(random: &mut Random) -> File {
         let (initiator, direction) = (random.pick(&initiators), random.below(2) as u8);
         let low = random.pick(&[0x300, 0x3B0, 0x3C0, 0x0, 0x2FC, 0x100]) + random.below(8);
         let high = random.pick(&[0, 0x400, 0xFC00, 0x1000, 0x2400, 0x4_0000, 0x12_0000]);
-        file = match random.below(8) {
+        file = match random.below(9) {
             0..=2 => file.memory(initiator, direction, high + low),
             3..=5 => file.io(initiator, direction, (high + low) as u32),
             6 => {
                 file.get(random.below(4) as u8, random.below(16) as u8, random.pick(&[0, 4, 0x1C]))
             }
+            7 => file.special(random.below(2) as u8),
             _ => file.check(),
         };
     }
@@ -617,8 +622,8 @@ fn random_file(random: &mut Random) -> File {
 #[test]
 fn lines_of_random_files() {
     let mut random = Random(20);
-    let mut seen = [0; 10];
-    for _ in 0..400 {
+    let mut seen = [0; 13];
+    for _ in 0..800 {
         let bytes = random_file(&mut random).0;
         let (rack, events) = read(&bytes).unwrap();
         let length = events_length(&File(bytes.clone()));
@@ -640,7 +645,8 @@ fn lines_of_random_files() {
         assert_eq!(lines, output(&bytes));
     }
     println!("endings: {seen:?}");
-    assert!(seen[1..].iter().all(|count| *count >= 20), "{seen:?}");
+    // There are no endings 10 and 11.
+    assert!(seen[1..10].iter().chain(&seen[12..]).all(|count| *count >= 20), "{seen:?}");
 }
 
 #[test]

@@ -31,6 +31,9 @@ enum-known-end-4 c = search needs
 enum-known-end-5 : tie.Need-enum-known-end-5
 enum-known-end-5 c = search needs
 
+enum-known-end-6 : tie.Need-enum-known-end-6
+enum-known-end-6 c = search needs
+
 enum-told : tie.Need-enum-told
 enum-told c = search needs
 
@@ -52,7 +55,11 @@ returns-5 c = rw (c .before .end5 .given .1)
 
 returns-6 : tie.Need-returns-6
 unfolding endedAt
-returns-6 c = rw (c .enum-told .given .1)
+returns-6 c = rw (c .before .end6 .given .1)
+
+returns-7 : tie.Need-returns-7
+unfolding endedAt
+returns-7 c = rw (c .enum-told .given .1)
 
 pub ended-at-spec : {M : Type 1} → statement M
 ended-at-spec =
@@ -67,9 +74,11 @@ ended-at-spec =
     enum-known-end-3
     enum-known-end-4
     enum-known-end-5
+    enum-known-end-6
     enum-told
     returns-2
     returns-3
     returns-4
     returns-5
-    returns-6)
+    returns-6
+    returns-7)

@@ -38,6 +38,12 @@ enum-known-e-5 c = search needs
 clash-line-requires : tie.Need-clash-line-requires
 clash-line-requires c κs = search needs
 
+enum-known-e-6 : tie.Need-enum-known-e-6
+enum-known-e-6 c = search needs
+
+special-line-requires : tie.Need-special-line-requires
+special-line-requires c κs = search needs
+
 enum-told-2 : tie.Need-enum-told-2
 enum-told-2 c = search needs
 
@@ -63,7 +69,10 @@ returns-6 : tie.Need-returns-6
 returns-6 c = rw (c .before .before .e5 .given .1) (c .clash-line .ensures)
 
 returns-7 : tie.Need-returns-7
-returns-7 c = rw (c .before .enum-told2 .given .1) (c .silent-line .ensures)
+returns-7 c = rw (c .before .before .e6 .given .1) (c .special-line .ensures)
+
+returns-8 : tie.Need-returns-8
+returns-8 c = rw (c .before .enum-told2 .given .1) (c .silent-line .ensures)
 
 pub ending-line-spec : {M : Type 1} → statement M
 ending-line-spec =
@@ -81,6 +90,8 @@ ending-line-spec =
     unclaimed-line-requires
     enum-known-e-5
     clash-line-requires
+    enum-known-e-6
+    special-line-requires
     enum-told-2
     silent-line-requires
     returns
@@ -89,4 +100,5 @@ ending-line-spec =
     returns-4
     returns-5
     returns-6
-    returns-7)
+    returns-7
+    returns-8)
