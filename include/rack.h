@@ -9,6 +9,8 @@
  *
  * No call keeps a pointer or any state. All of them may run side by side in threads, as long as nobody else reads or writes meanwhile
  * what one of them writes: `answer`, and both images in rack_run and rack_reset.
+ *
+ * rack_grant stands apart: a step of a bus arbiter, which has no rack and no image.
  */
 #ifndef MUZGANTE_RACK_H
 #define MUZGANTE_RACK_H
@@ -20,17 +22,19 @@
 extern "C" {
 #endif
 
-/* Goes up where a prototype or a number below changes. A new name for a new number leaves it as it is. */
-#define RACK_VERSION 1
+/* Goes up where a prototype or a number below changes, or a call is new: rack_grant is there from 2 on. A new name for a new number
+ * leaves it as it is. */
+#define RACK_VERSION 2
 
 /* Limits. */
 enum {
-    RACK_MOST_BYTES = 65536, /* of a rack, and of a rack file */
+    RACK_MOST_BYTES = 65536,   /* of a rack, and of a rack file */
     RACK_MOST_BRIDGES = 32,
     RACK_MOST_DEVICES = 64,
     RACK_MOST_NODES = 96,
-    RACK_NODE_BYTES = 64,   /* of a node's registers in its image */
-    RACK_NODE_WINDOWS = 3,  /* windows of a bridge, regions of a device */
+    RACK_NODE_BYTES = 64,      /* of a node's registers in its image */
+    RACK_NODE_WINDOWS = 3,     /* windows of a bridge, regions of a device */
+    RACK_MOST_REQUESTERS = 10, /* of a bus: members 0 to 9 of its arbiter */
     RACK_ANSWER_NUMBERS = 8
 };
 
@@ -80,7 +84,8 @@ enum {
     RACK_REFUSED_REGION = 10,       /* a region's kind or exponent out of range */
     RACK_REFUSED_IMAGE_LENGTH = 11, /* an image that is not 64 times its node count long */
     RACK_REFUSED_FIXED_BIT = 12,    /* a fixed bit that differs from its reset value */
-    RACK_REFUSED_FIELD = 13         /* a field of the event out of range, or a node or window that is missing */
+    RACK_REFUSED_FIELD = 13,        /* a field of the event out of range, or a node or window that is missing */
+    RACK_REFUSED_ARBITER = 20       /* rack_grant alone: a bit above 9, or a state that names a place its ring lacks */
 };
 
 /* answer[0] says how an event ended; the comment says what answer[1] and the following hold then. The rest is 0. A holder is the node
@@ -111,6 +116,18 @@ enum { RACK_SPACE_MEMORY = 0, RACK_SPACE_IO = 1, RACK_SPACE_CONFIGURATION = 2 };
 /* The windows of a bridge of either kind for rack_window. A device's regions have their own numbers, 0 to 2. */
 enum { RACK_WINDOW_MEMORY = 0, RACK_WINDOW_PREFETCHABLE = 1, RACK_WINDOW_IO = 2 };
 
+/* The places of an arbiter's rings are its members, 0 to 9, and these. */
+enum {
+    RACK_PLACE_LOW = 10, /* the whole low group, last in the high ring, also where the group is empty */
+    RACK_PLACE_NONE = 15 /* of a state: none granted yet */
+};
+
+/* answer[0] of rack_grant; the comment says what follows: the state after it. */
+enum {
+    RACK_GRANT_MEMBER = 1, /* the member granted, high, low */
+    RACK_GRANT_NOBODY = 2  /* high, low: nobody requests, and the state is as it was */
+};
+
 /* One event (a record of kind 4 to 8) on the rack: how it ends, and both images as it leaves them. */
 uint8_t rack_run(const uint8_t *rack, size_t rack_count, const uint8_t *event, size_t event_count, uint8_t *bridges,
                  size_t bridges_count, uint8_t *devices, size_t devices_count, uint64_t answer[RACK_ANSWER_NUMBERS]);
@@ -131,6 +148,16 @@ uint8_t rack_reset(const uint8_t *rack, size_t rack_count, uint8_t *bridges, siz
 uint8_t rack_window(const uint8_t *rack, size_t rack_count, const uint8_t *bridges, size_t bridges_count, const uint8_t *devices,
                     size_t devices_count, uint8_t node, uint8_t k, uint64_t answer[RACK_ANSWER_NUMBERS]);
 
+/* One step of a bus arbiter. `mask` has a bit for each member of the high group, the others are the low group; `requests` has one for
+ * each member that requests. `high` and `low` are the state: what each ring granted last. The high ring is the high members by number
+ * and then RACK_PLACE_LOW, the low ring the low members by number; both begin at RACK_PLACE_NONE, and the next call is given the state
+ * that this one gave.
+ *
+ * A grant goes to the next requesting place after the last one granted, going round; the low place hands it to the next low member after
+ * the last low one. With H high and L low members, a member that keeps requesting is granted within H + 1 grants if it is high and
+ * (H + 1) times L if it is low. */
+uint8_t rack_grant(uint16_t mask, uint16_t requests, uint8_t high, uint8_t low, uint64_t answer[RACK_ANSWER_NUMBERS]);
+
 /* What a refusal means, in words; for any other number, that it is none. */
 static inline const char *rack_refusal_text(unsigned refusal)
 {
@@ -149,6 +176,7 @@ static inline const char *rack_refusal_text(unsigned refusal)
     case RACK_REFUSED_IMAGE_LENGTH: return "an image has the wrong length";
     case RACK_REFUSED_FIXED_BIT: return "a fixed register bit differs from its reset value";
     case RACK_REFUSED_FIELD: return "a field is out of range, or names what is not there";
+    case RACK_REFUSED_ARBITER: return "a mask or request set has a bit above 9, or a state names a place its ring lacks";
     default: return "no refusal has this number";
     }
 }

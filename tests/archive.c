@@ -1,4 +1,4 @@
-/* The archive's four calls over a script of calls (CALLS.md, operations 8 to 11). Every buffer is allocated just as long as it is
+/* The archive's five calls over a script of calls (CALLS.md, operations 8 to 12). Every buffer is allocated just as long as it is
  * given, so that address sanitizer sees a step outside. */
 #include "../include/rack.h"
 
@@ -42,6 +42,8 @@ static uint8_t call(const uint8_t *head, struct bytes rack, struct bytes event, 
         return rack_reset(rack.at, rack.count, bridges.at, bridges.count, devices.at, devices.count);
     case 11:
         return rack_window(rack.at, rack.count, bridges.at, bridges.count, devices.at, devices.count, head[11], head[12], answer);
+    case 12:
+        return rack_grant((uint16_t)number(&head[14], 2), (uint16_t)number(&head[16], 2), head[11], head[12], answer);
     default:
         fprintf(stderr, "archive: operation %u is no call of the archive\n", head[0]);
         exit(1);

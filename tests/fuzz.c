@@ -1,8 +1,9 @@
 /* The archive's calls on any bytes: an entry for a coverage-guided fuzzer, and a driver of its own.
  *
- * An input is one call of a script (CALLS.md, operations 8 to 11), its counts cut to the bytes that are there. Every buffer ends at a
+ * An input is one call of a script (CALLS.md, operations 8 to 12), its counts cut to the bytes that are there. Every buffer ends at a
  * page that may not be touched: the archive is not compiled with a sanitizer, and a step past a buffer's end is then seen all the same.
- * What a call promises in general is looked at: 0 or the number of a refusal; on a refusal all 0 and both images untouched.
+ * What a call promises in general is looked at: 0 or the number of a refusal; on a refusal all 0 and both images untouched; a step of the
+ * arbiter grants a requester, and the next step takes the state that it gives.
  *
  *     clang -g -O1 -fsanitize=fuzzer,address tests/fuzz.c -Ltarget/staticlib -lmuzgante     (libFuzzer)
  *     tests/fuzz [CALLS [SEED]]                                                             (gcc, the driver below)
@@ -65,6 +66,22 @@ static void expect(int is_true, const char *what)
     }
 }
 
+static uint8_t step(const uint8_t *head, uint64_t answer[RACK_ANSWER_NUMBERS])
+{
+    uint16_t mask = (uint16_t)number(head + 14, 2), requests = (uint16_t)number(head + 16, 2);
+    uint8_t code = rack_grant(mask, requests, head[11], head[12], answer);
+    expect(code == 0 || code == RACK_REFUSED_ARBITER, "a step of the arbiter has another refusal");
+    if (code != 0) {
+        return code;
+    }
+    int is_granted = answer[0] == RACK_GRANT_MEMBER;
+    expect(is_granted == (requests != 0) && (is_granted || answer[0] == RACK_GRANT_NOBODY), "a grant without a request, or none with one");
+    expect(!is_granted || (answer[1] < RACK_MOST_REQUESTERS && (requests >> answer[1] & 1) == 1), "a grant to nobody who requests");
+    uint64_t next[RACK_ANSWER_NUMBERS], *state = answer + 1 + is_granted;
+    expect(rack_grant(mask, requests, (uint8_t)state[0], (uint8_t)state[1], next) == 0, "the state that a step gives is refused");
+    return code;
+}
+
 int LLVMFuzzerTestOneInput(const uint8_t *input, size_t size)
 {
     static struct guarded buffers[5];
@@ -89,7 +106,7 @@ int LLVMFuzzerTestOneInput(const uint8_t *input, size_t size)
     uint64_t *answer = (uint64_t *)(void *)(buffers[4].end - ANSWER_BYTES), zeros[RACK_ANSWER_NUMBERS] = {0};
     memset(answer, 0xA5, ANSWER_BYTES);
     uint8_t code;
-    switch (input[0] % 4) {
+    switch ((input[0] + 2) % 5) { /* operation 8 is the first */
     case 0:
         code = rack_run(rack, counts[0], event, counts[1], bridges, counts[2], devices, counts[3], answer);
         break;
@@ -100,10 +117,13 @@ int LLVMFuzzerTestOneInput(const uint8_t *input, size_t size)
         memset(answer, 0, ANSWER_BYTES);
         code = rack_reset(rack, counts[0], bridges, counts[2], devices, counts[3]);
         break;
-    default:
+    case 3:
         code = rack_window(rack, counts[0], bridges, counts[2], devices, counts[3], input[11], input[12], answer);
+        break;
+    default:
+        code = step(input, answer);
     }
-    expect(code <= RACK_REFUSED_FIELD, "a number that is no refusal");
+    expect(code <= RACK_REFUSED_FIELD || code == RACK_REFUSED_ARBITER, "a number that is no refusal");
     expect(memcmp(rack, from[0], counts[0]) == 0 && memcmp(event, from[1], counts[1]) == 0, "the rack or the event was written");
     if (code != 0) {
         expect(memcmp(answer, zeros, ANSWER_BYTES) == 0, "a refused answer is not all 0");

@@ -220,17 +220,50 @@ static void ends_of_windows(void (*add_one)(struct rack *r, uint8_t parent, uint
            "there is a window more");
 }
 
+/* The places and answers of the arbiter, with member 3 alone in the high group. */
+static void arbiter(void)
+{
+    const uint16_t mask = 1 << 3, all = (1 << RACK_MOST_REQUESTERS) - 1;
+    uint64_t answer[RACK_ANSWER_NUMBERS];
+    expect(rack_grant(mask, 0, RACK_PLACE_NONE, RACK_PLACE_NONE, answer) == 0 && answer[0] == RACK_GRANT_NOBODY &&
+               answer[1] == RACK_PLACE_NONE && answer[2] == RACK_PLACE_NONE,
+           "nobody requests, and somebody is granted");
+    expect(rack_grant(mask, all, RACK_PLACE_NONE, RACK_PLACE_NONE, answer) == 0 && answer[0] == RACK_GRANT_MEMBER && answer[1] == 3 &&
+               answer[2] == 3 && answer[3] == RACK_PLACE_NONE,
+           "the first grant goes to another than the high member");
+    expect(rack_grant(mask, all, 3, RACK_PLACE_NONE, answer) == 0 && answer[0] == RACK_GRANT_MEMBER && answer[1] == 0 &&
+               answer[2] == RACK_PLACE_LOW && answer[3] == 0,
+           "the second goes to another than the first low member");
+    for (unsigned last = 0; last <= UINT8_MAX; last++) {
+        int is_high = last == 3 || last == RACK_PLACE_LOW || last == RACK_PLACE_NONE;
+        int is_low = (last < RACK_MOST_REQUESTERS && last != 3) || last == RACK_PLACE_NONE;
+        expect(rack_grant(mask, all, (uint8_t)last, RACK_PLACE_NONE, answer) == (is_high ? 0 : RACK_REFUSED_ARBITER), "a place of the high ring");
+        expect(rack_grant(mask, all, RACK_PLACE_NONE, (uint8_t)last, answer) == (is_low ? 0 : RACK_REFUSED_ARBITER), "a place of the low ring");
+    }
+    for (unsigned bit = RACK_MOST_REQUESTERS; bit < 16; bit++) {
+        const uint16_t more = (uint16_t)(1 << bit);
+        expect(rack_grant(more, 0, RACK_PLACE_NONE, RACK_PLACE_NONE, answer) == RACK_REFUSED_ARBITER, "a mask with a bit above 9 is taken");
+        expect(rack_grant(0, more, RACK_PLACE_NONE, RACK_PLACE_NONE, answer) == RACK_REFUSED_ARBITER, "a request set with one is taken");
+    }
+}
+
+static int is_refusal(unsigned number)
+{
+    return (number >= RACK_REFUSED_TOO_LONG && number <= RACK_REFUSED_FIELD) || number == RACK_REFUSED_ARBITER;
+}
+
 static void texts(void)
 {
     const char *none = rack_refusal_text(UINT_MAX);
-    for (unsigned i = 0; i <= RACK_REFUSED_FIELD; i++) {
+    for (unsigned i = 0; i <= 300; i++) {
+        if (i != 0 && !is_refusal(i)) {
+            expect(strcmp(rack_refusal_text(i), none) == 0, "a number that is no refusal has a text");
+            continue;
+        }
         expect(strcmp(rack_refusal_text(i), none) != 0, "a refusal has no text");
         for (unsigned k = 0; k < i; k++) {
             expect(strcmp(rack_refusal_text(i), rack_refusal_text(k)) != 0, "two refusals have one text");
         }
-    }
-    for (unsigned i = RACK_REFUSED_FIELD + 1; i <= 300; i++) {
-        expect(strcmp(rack_refusal_text(i), none) == 0, "a number that is no refusal has a text");
     }
 }
 
@@ -277,6 +310,7 @@ int main(void)
     image_length();
     ends_of_windows(add_bridge);
     ends_of_windows(add_older_bridge);
+    arbiter();
     texts();
     threads();
     puts("include/rack.h names the numbers that the calls go by");

@@ -3,6 +3,7 @@ from racks import BRIDGE, CHECK, DEVICE, EXPONENTS, HOST, OLDER_BRIDGE, Firmware
 
 DECODED = (1, 2, 3, 4, 5, 6, 7)
 ARCHIVE = (8, 9, 10, 11)
+STEP = 12  # of the arbiter, of both programs
 NAMING = (1, 2, 3, 4, 5, 11)  # operations that name a node
 RUNNING = (6, 8)  # operations that run an event
 NODES = 96
@@ -159,7 +160,25 @@ def named_kind(call):
     return dict(enumerate(node_kinds(call))).get(call[11]) if call[0] in NAMING else None
 
 
-def random_call(rng, operations):
+def random_step(rng):
+    """Mask, request set and state for a step of the arbiter; one of the four is damaged, here and there."""
+    mask, requests = rng.getrandbits(10), rng.getrandbits(10) & rng.getrandbits(rng.choice((0, 10, 10)))
+    members = lambda is_high: [i for i in range(10) if mask >> i & 1 == is_high]
+    high, low = rng.choice(members(1) + [10, 15]), rng.choice(members(0) + [15])
+    way = rng.random()
+    if way < 0.05:
+        mask |= 1 << rng.randint(10, 15)
+    elif way < 0.10:
+        requests |= 1 << rng.randint(10, 15)
+    elif way < 0.15:
+        high = rng.choice((rng.randint(0, 16), rng.randint(0, 255)))
+    elif way < 0.20:
+        low = rng.choice((rng.randint(0, 16), rng.randint(0, 255)))
+    return mask, requests, high, low
+
+
+def random_call(rng, operations, steps=0.05):
+    """A call of one of the operations, or a step of the arbiter, which is rarer."""
     size = rng.choices(((0, 0), (1, 2), (3, 6), (8, 20), (32, 64)), (2, 10, 20, 4, 2))[0]
     rack = random_rack(rng, size[0], size[1], rng.choice(("any", "chain", "wide")))
     firmware = Firmware(rack)
@@ -167,8 +186,8 @@ def random_call(rng, operations):
     event = random_event(rng, rack, firmware)
     if rng.random() < 0.25:
         damage(rng, rack)
-    operation = rng.choice(operations)
-    if operation in ARCHIVE:
+    operation = STEP if rng.random() < steps else rng.choice(operations)
+    if ARCHIVE[0] in operations:
         rack_part = rack_bytes(rng, rack)
         event = any_bytes(rng, event) if rng.random() < 0.1 else event
     else:
@@ -177,5 +196,9 @@ def random_call(rng, operations):
     most = 3 if operation in (4, 5, 11) else 255
     index = rng.choice((rng.randint(0, most), 4 * rng.randint(0, 16) % (most + 1)))
     head = bytes([operation]) + number(len(rack_part), 4) + number(len(event), 2) + number(len(bridges), 2) + number(len(devices), 2)
-    head += bytes([node, index, rng.randint(0, 15) if rng.random() < 0.95 else rng.randint(0, 255)]) + number(rng.getrandbits(32), 4)
+    data = rng.getrandbits(32)
+    if operation == STEP:
+        mask, requests, node, index = random_step(rng)
+        data = mask | requests << 16
+    head += bytes([node, index, rng.randint(0, 15) if rng.random() < 0.95 else rng.randint(0, 255)]) + number(data, 4)
     return head + rack_part + event + bytes(bridges) + bytes(devices)

@@ -1,8 +1,9 @@
 /* A small classroom screen: the tree of a rack with both ends of every window and region, register writes and accesses from the
- * keyboard, and where each access went. It links libmuzgante.a and decodes no register itself.
+ * keyboard, and where each access went; beside it a lesson on sharing a bus. It links libmuzgante.a and decodes no register itself.
  *
  *     screen RACK        a rack file; the screen takes its rack records and leaves its events to the class
  */
+#include "arbiter.h"
 #include "chassis.h"
 #include "show.h"
 #include "words.h"
@@ -151,6 +152,24 @@ static void obey_node(struct chassis *c, const char *const word[])
     }
 }
 
+static void obey_arbiter(struct chassis *c, const char *const word[])
+{
+    (void)c;
+    uint16_t set;
+    if (members(word[0], &set)) {
+        begin_arbiter(set);
+    }
+}
+
+static void obey_request(struct chassis *c, const char *const word[])
+{
+    (void)c;
+    uint16_t set;
+    if (members(word[0], &set)) {
+        request(set);
+    }
+}
+
 static void obey_reset(struct chassis *c, const char *const word[])
 {
     (void)word;
@@ -169,6 +188,8 @@ static const struct command commands[] = {
     {"check", "", "does anyone claim what another claims?", 0, obey_check},
     {"node", "NUMBER", "the 64 registers of a node, by its decimal number", 1, obey_node},
     {"reset", "", "every register back to its reset value", 0, obey_reset},
+    {"arbiter", "HIGH", "ten members share a bus: those of the high group, as 025 or none", 1, obey_arbiter},
+    {"request", "MEMBERS", "who requests it now, the same: who is granted, and how the rings stand", 1, obey_request},
     {"help", "", "these lines", 0, obey_help},
     {"quit", "", "the end of the lesson", 0, NULL},
 };

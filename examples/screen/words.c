@@ -103,3 +103,21 @@ bool decimal(const char *word, const char *what, uint64_t most, uint64_t *number
     }
     return is_number;
 }
+
+bool members(const char *word, uint16_t *set)
+{
+    *set = 0;
+    if (strcmp(word, "none") == 0) {
+        return true;
+    }
+    for (const char *c = word; *c != '\0'; c++) {
+        unsigned digit = digit_of(*c, 10);
+        uint16_t bit = (uint16_t)(1 << digit);
+        if (digit == 10 || (*set & bit) != 0) {
+            show_wrong(word, "set of members", "digits, each once, as 025, or none");
+            return false;
+        }
+        *set |= bit;
+    }
+    return true;
+}

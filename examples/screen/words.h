@@ -23,4 +23,7 @@ void show_wrong(const char *word, const char *what, const char *expected);
 bool hexadecimal(const char *word, const char *what, uint64_t most, uint64_t *number);
 bool decimal(const char *word, const char *what, uint64_t most, uint64_t *number);
 
+/* Members of a bus, each a digit, as a set with a bit for each: 025, or none. */
+bool members(const char *word, uint16_t *set);
+
 #endif

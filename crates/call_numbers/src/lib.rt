@@ -4,8 +4,10 @@ ghost use mathlib.Core.List.{[], _∷_};
 ghost use Rattle.route_bus.specs.definitions.End.{outcomeNumber};
 ghost use Rattle.event_run.specs.definitions.Answers.{endingNumber, endingValues};
 ghost use Rattle.check_search.specs.definitions.Report.{reportNumber, reportValues};
-ghost use Rattle.call_numbers.specs.definitions.Numbers.{eight, zeros, numbersOf, codeOf, replyNumbers, endsCode, endsNumbers};
+ghost use Rattle.call_numbers.specs.definitions.Numbers.{eight, zeros, numbersOf, codeOf, replyNumbers, endsCode, endsNumbers, arbitrationNumbers};
+ghost use Rattle.arbiter.specs.definitions.Arbiter.{refusalOf};
 ghost use Rattle.claim_agent.specs.definitions.Space.{spaceNumber};
+use arbiter::Arbitration;
 use call_table::RangeReply;
 use call_table::Reply;
 use check_search::Report;
@@ -149,6 +151,32 @@ pub fn put_ends(answer: &mut [u64; 8], e: RangeReply) -> u8
                 return refuse(answer, 0);
             }
             put_eight(answer, 1, r.first, r.last, 0, 0, 0, 0);
+            0
+        }
+    }
+}
+
+// Who is granted, and the state after; 0, or the refusal's number.
+pub fn put_arbitration(answer: &mut [u64; 8], a: Arbitration) -> u8
+    ensures { λ r. ⌜ (r ≡ refusalOf a) × (now (answer .exit) ≡ arbitrationNumbers a) ⌝ }
+{
+    match a {
+        Arbitration::Refused(n) => refuse(answer, n),
+        Arbitration::NoGrant(s) => {
+            put_eight(answer, 2, s.high as u64, s.low as u64, 0, 0, 0, 0);
+            0
+        }
+        Arbitration::Grant { member, after } => {
+            put_eight(
+                answer,
+                1,
+                member as u64,
+                after.high as u64,
+                after.low as u64,
+                0,
+                0,
+                0,
+            );
             0
         }
     }

@@ -1,5 +1,8 @@
 // The calls, each with its answer as eight numbers; what is returned is 0 or the refusal's number.
 use crate::asked::Asked;
+use arbiter::State;
+use arbiter::arbitrate;
+use call_numbers::put_arbitration;
 use call_numbers::put_ends;
 use call_numbers::put_reply;
 use call_open::read_register;
@@ -20,6 +23,17 @@ fn put_number(answer: &mut [u64; 8], n: Number) -> u8 {
             0
         }
     }
+}
+
+// Operation 12: the mask is the lower half of the data, the request set the upper.
+fn step_made(a: Asked, answer: &mut [u64; 8]) -> u8 {
+    let mask = (a.put % 65536) as u16;
+    let requests = (a.put / 65536) as u16;
+    let s = State {
+        high: a.node,
+        low: a.index,
+    };
+    put_arbitration(answer, arbitrate(mask, requests, s))
 }
 
 // A view gives no number: its part is empty where it is refused.
@@ -54,6 +68,9 @@ pub fn make(
     }
     if a.operation == 7 {
         return put_reply(answer, run_check(rack, bridges, devices));
+    }
+    if a.operation == 12 {
+        return step_made(a, answer);
     }
     0
 }

@@ -1,7 +1,7 @@
 //! A second, independent implementation of `01-scope.md` ("Bridge trees, claims and routes")
-//! with requests E4 and E11 of `02-change-requests.md`. Text in quotes in the comments is a
-//! sentence of these two documents; what speaks of special cycles is from E4, what speaks
-//! of older bridges from E11.
+//! with requests E4, E11 and E14 of `02-change-requests.md`. Text in quotes in the comments is
+//! a sentence of these two documents; what speaks of special cycles is from E4, what speaks
+//! of older bridges from E11, what speaks of the arbiter from E14.
 //!
 //! - [`file`]: a rack file read to a rack and its events, or to a refusal.
 //! - [`rack`]: the decoded rack, a bridge's options, buses and agents.
@@ -15,9 +15,11 @@
 //! - [`answer`]: the endings of an event and the lines that show them.
 //! - [`calls`]: all of the above as calls over a rack and two lent images.
 //! - [`program`]: the whole output for the bytes of a rack file.
+//! - [`arbiter`]: whose turn it is on a shared bus; it needs no rack.
 //! - [`script`]: scripts of calls as `CALLS.md` says, and what every call gives.
 
 pub mod answer;
+pub mod arbiter;
 pub mod bytes;
 pub mod calls;
 pub mod check;

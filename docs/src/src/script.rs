@@ -3,6 +3,7 @@
 use std::io::{self, ErrorKind, Read, Write};
 
 use crate::answer::{Abort, Answer, Fault, Kind};
+use crate::arbiter::{self, State, Step};
 use crate::bytes::{u16_at, u32_at, u64_at, u8_at};
 use crate::rack::Rack;
 use crate::windows::Ends;
@@ -99,6 +100,7 @@ impl Call {
         match self.operation {
             1..=7 => self.make_over_decoded_rack(),
             8..=11 => self.make_over_bytes(),
+            12 => Some(self.make_without_rack()),
             _ => None,
         }
     }
@@ -148,6 +150,16 @@ impl Call {
             _ => return None,
         };
         Some(result)
+    }
+
+    /// "An operation of both programs that has no rack": "one step of the arbiter".
+    fn make_without_rack(&self) -> Result<Given, u8> {
+        // "node: the place that the high ring granted last; register: the member that the low
+        // ring granted last"
+        let state = State { high: self.node, low: self.named };
+        // "data: its lower two bytes the mask, its upper two the request set"
+        let (mask, requests) = (self.data as u16, (self.data >> 16) as u16);
+        arbiter::step(mask, state, requests).map(stepped)
     }
 
     /// "What a call gives", the images "as the call leaves them".
@@ -233,6 +245,16 @@ fn ending(answer: Answer) -> Given {
         Answer::Fault(Fault { holder, kind, value, driver, claimants: (a, b) }) => {
             numbers(&[9, byte(holder), space(kind), value, byte(driver), byte(a), byte(b)])
         }
+    }
+}
+
+/// "1, the member granted, then the last granted of the high ring and of the low ring after
+/// it; or 2 and the last granted of both rings where there is no grant."
+fn stepped(Step { granted, state }: Step) -> Given {
+    let [high, low] = [state.high, state.low].map(u64::from);
+    match granted {
+        Some(member) => numbers(&[1, u64::from(member), high, low]),
+        None => numbers(&[2, high, low]),
     }
 }
 

@@ -6,6 +6,8 @@ use lib.ListN.{take}
 use Rattle.claim_window.specs.definitions.Range.{isEmpty}
 use Rattle.event_run.specs.declared.Answer.{Answer}
 use Rattle.event_run.specs.definitions.Answers.{answerNumber, answerValues}
+use Rattle.arbiter.specs.declared.Arbitration.{Arbitration}
+use Rattle.arbiter.specs.declared.Arbitration.the-variants as arbitration
 use Rattle.call_table.specs.declared.Reply.{Reply}
 use Rattle.call_table.specs.declared.Reply.the-variants as reply
 use Rattle.call_table.specs.declared.RangeReply.{RangeReply}
@@ -39,3 +41,9 @@ endsCode (range-reply.Range r) = 0
 abbrev pub endsNumbers : RangeReply → List ℕ
 endsNumbers (range-reply.Refused n) = zeros
 endsNumbers (range-reply.Range r) = cond (isEmpty r) zeros (eight 1 (r .first ∷ r .last ∷ []))
+
+-- a step of the arbiter: 1, the member granted and the state after; or 2 and the state, where there is no grant
+abbrev pub arbitrationNumbers : Arbitration → List ℕ
+arbitrationNumbers (arbitration.Refused n) = zeros
+arbitrationNumbers (arbitration.NoGrant s) = eight 2 (s .high ∷ s .low ∷ [])
+arbitrationNumbers (arbitration.Grant member s) = eight 1 (member ∷ s .high ∷ s .low ∷ [])

@@ -33,8 +33,12 @@ use Rattle.call_table.specs.declared.Number.the-variants as number
 use Rattle.call_table.specs.declared.RangeReply.the-variants as range
 use Rattle.call_table.specs.definitions.Call as call
 use Rattle.call_table.specs.definitions.Call.{refusalBy, ran, runIn, checkIn}
-use Rattle.call_numbers.specs.definitions.Numbers.{eight, zeros}
-use Rattle.muzgante.specs.definitions.Called.{refusedCall, repliedCall, endsCall, rackRun, rackCheck, rackWindow, rackReset}
+use Rattle.arbiter.specs.declared.State.{State}
+use Rattle.arbiter.specs.declared.Arbitration.the-variants as arbitration
+use Rattle.arbiter.specs.definitions.Arbiter as arbiter
+use Rattle.arbiter.specs.definitions.Arbiter.{step, answerOf, arbitrate, refusalOf}
+use Rattle.call_numbers.specs.definitions.Numbers.{eight, zeros, arbitrationNumbers}
+use Rattle.muzgante.specs.definitions.Called.{refusedCall, repliedCall, endsCall, rackRun, rackCheck, rackWindow, rackReset, rackGrant}
 use Rattle.demand_passed.specs.definitions.OneClaimant.{OneClaimant}
 use Rattle.demand_passed.specs.definitions.FirstFault.{FirstFault}
 use Rattle.demand_calls.specs.definitions.Events.{Fits, replyNumber, Goes, crossings, startBus, AllWriteNone, afterAll, MayNotDrive, SpecialCycle, specialReply}
@@ -120,6 +124,20 @@ pub record Reset (b : List ℕ) (im : Images) : Type 0 where
   pub answers : rackAlone b .refusal ≡ 0 → lengthsWrong (rackAlone b .tree) im ≡ false
       → rackReset b im ≡ record { code = 0; numbers = zeros; after = resetImages (rackAlone b .tree) im }
 
+-- 02, E14: a step of the arbiter, as an open call and from C. It has no image; 'A mask or request set with a bit above 9, or a state that
+-- names a place its ring lacks, is 20'
+pub record Grants (mask requests : ℕ) (s : State) : Type 0 where
+  pub refused : arbiter.refused mask requests s ≡ true → arbitrate mask requests s ≡ arbitration.Refused 20
+  pub answers : arbiter.refused mask requests s ≡ false → arbitrate mask requests s ≡ answerOf (step mask requests s)
+
+pub record CGrants (mask requests high low : ℕ) : Type 0 where
+  pub refused : arbiter.refused mask requests (record { high = high; low = low }) ≡ true
+      → (refusalOf (rackGrant mask requests high low) ≡ 20) × (arbitrationNumbers (rackGrant mask requests high low) ≡ zeros)
+  pub answers : arbiter.refused mask requests (record { high = high; low = low }) ≡ false
+      → (refusalOf (rackGrant mask requests high low) ≡ 0)
+      × (arbitrationNumbers (rackGrant mask requests high low)
+      ≡ arbitrationNumbers (answerOf (step mask requests (record { high = high; low = low }))))
+
 pub record Demand1 : Type 0 where
   pub bytes : (known : Class → Bool) (b : List ℕ) → Bytes known b
   pub nodes : (t : Tree) → Nodes t
@@ -141,6 +159,8 @@ pub record Demand1 : Type 0 where
       → InOrder b 0 im (call.windowRefusal (rackAlone b .tree) i k)
       (endsCall (range.Range (windowEnds (rackAlone b .tree) im i k)) im) (rackWindow b im i k)
   pub c-reset : (b : List ℕ) (im : Images) → Reset b im
+  pub grants : (mask requests : ℕ) (s : State) → Grants mask requests s
+  pub c-grants : (mask requests high low : ℕ) → CGrants mask requests high low
 
 -- 2. 'Register reads and writes, claims and routes, downstream and upstream, are those of the PCI-to-PCI Bridge Architecture
 -- Specification 1.2 as document 01 condenses it.'

@@ -1,5 +1,5 @@
 -- The demands are met.
-use mathlib.Core.Path.{_≡_, ap}
+use mathlib.Core.Path.{_≡_, refl, ap}
 use mathlib.Core.Bool.{Bool}
 use mathlib.Core.List.{List}
 use Prim.Native.Nat.{ℕ}
@@ -14,6 +14,8 @@ use Rattle.file_record.specs.definitions.Load.{Loading}
 use Rattle.file_record.specs.laws.Turns.{read-over, read-empty}
 use Rattle.file_laws.specs.laws.Refused as file
 use Rattle.event_run.specs.declared.Answer.the-variants.{Checked}
+use Rattle.arbiter.specs.definitions.Arbiter.{step}
+use Rattle.arbiter.specs.laws.Answers.{is-refused, is-answered, no-refusal}
 use Rattle.call_table.specs.declared.Reply.the-variants as reply
 use Rattle.call_table.specs.definitions.Call.{checkIn}
 use Rattle.muzgante.specs.definitions.Called.{rackCheck}
@@ -45,6 +47,15 @@ bytes known b =
       refuses = λ l s n o f. file.gives known b l s n o f;
       accepts = λ l s f. file.accepts known b l s f;
       accepted = λ z. file.faultless known b z;
+    }
+
+c-grants : (mask requests high low : ℕ) → demands.CGrants mask requests high low
+c-grants mask requests high low =
+    record {
+      refused = λ e. rw (is-refused mask requests (record { high = high; low = low }) e) (refl, refl);
+      answers = λ e.
+          rw (is-answered mask requests (record { high = high; low = low }) e)
+          (no-refusal (step mask requests (record { high = high; low = low })), refl);
     }
 
 pub demand1 : Demand1
@@ -83,6 +94,8 @@ demand1 =
             by-length = c-refusing.reset-by-length b im;
             answers = c-refusing.reset-accepts b im;
           };
+      grants = λ mask requests s. record { refused = is-refused mask requests s; answers = is-answered mask requests s };
+      c-grants = c-grants;
     }
 
 passed : (rack : Rack) (im : Images) → checkIn (tree rack) im ≡ reply.Answered (Checked Pass) → demands.Passed3 rack im

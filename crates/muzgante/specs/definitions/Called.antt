@@ -2,6 +2,8 @@
 use Prim.Native.Nat.{ℕ}
 use mathlib.Core.List.{List}
 use Rattle.rack.specs.definitions.First.{_when_, _or_, unless}
+use Rattle.arbiter.specs.declared.Arbitration.{Arbitration}
+use Rattle.arbiter.specs.definitions.Arbiter.{arbitrate}
 use Rattle.register_image.specs.definitions.Image.{Images, images, Result, gives}
 use Rattle.register_image.specs.definitions.Fixed.{lengthsWrong}
 use Rattle.register_image.specs.definitions.Reset.{resetImages}
@@ -56,3 +58,7 @@ unfoldable pub rackReset : List ℕ → Images → Called
 rackReset b im =
     unless (resetRefusal b im) (record { code = 0; numbers = zeros; after = resetImages (rackAlone b .tree) im })
     (λ n. refusedCall n im)
+
+-- rack_grant: a step of the arbiter; the state is two numbers
+abbrev pub rackGrant : ℕ → ℕ → ℕ → ℕ → Arbitration
+rackGrant mask requests high low = arbitrate mask requests (record { high = high; low = low })

@@ -1,5 +1,6 @@
 //! All tests, in one binary.
 
+mod arbiter;
 mod build;
 mod calls;
 mod check;

@@ -11,7 +11,7 @@ use rackcheck::file::read;
 use rackcheck::rack::{Event, Header, Options, Rack};
 
 /// What a script gives.
-fn script(bytes: &[u8]) -> Vec<u8> {
+pub fn script(bytes: &[u8]) -> Vec<u8> {
     let mut out = Vec::new();
     rackcheck::script::run(&mut &bytes[..], &mut out).expect("a vector takes all");
     out
@@ -19,28 +19,28 @@ fn script(bytes: &[u8]) -> Vec<u8> {
 
 /// A call of a script under construction.
 #[derive(Clone, Debug, Default)]
-struct Call {
-    operation: u8,
-    rack: Vec<u8>,
-    event: Vec<u8>,
-    images: (Vec<u8>, Vec<u8>),
-    node: u8,
-    named: u8,
-    enables: u8,
-    data: u32,
+pub struct Call {
+    pub operation: u8,
+    pub rack: Vec<u8>,
+    pub event: Vec<u8>,
+    pub images: (Vec<u8>, Vec<u8>),
+    pub node: u8,
+    pub named: u8,
+    pub enables: u8,
+    pub data: u32,
 }
 
 /// What a call gives.
 #[derive(Clone, Debug, PartialEq, Eq)]
-struct Gives {
-    number: u8,
-    numbers: Vec<u64>,
-    part: Vec<u8>,
-    images: (Vec<u8>, Vec<u8>),
+pub struct Gives {
+    pub number: u8,
+    pub numbers: Vec<u64>,
+    pub part: Vec<u8>,
+    pub images: (Vec<u8>, Vec<u8>),
 }
 
 impl Call {
-    fn bytes(&self) -> Vec<u8> {
+    pub fn bytes(&self) -> Vec<u8> {
         let mut bytes = vec![self.operation];
         bytes.extend((self.rack.len() as u32).to_le_bytes());
         for count in [self.event.len(), self.images.0.len(), self.images.1.len()] {
@@ -51,7 +51,7 @@ impl Call {
         [&bytes[..], &self.rack, &self.event, &self.images.0, &self.images.1].concat()
     }
 
-    fn gives(&self) -> Gives {
+    pub fn gives(&self) -> Gives {
         let out = script(&self.bytes());
         let count = usize::from(u16_at(&out, 65));
         let (part, images) = out[67..].split_at(count);
@@ -66,13 +66,13 @@ impl Call {
     }
 
     /// The call gives these numbers, the rest 0, and leaves both images.
-    fn gives_numbers(&self, numbers: &[u64]) {
+    pub fn gives_numbers(&self, numbers: &[u64]) {
         let gives = Gives { number: 0, numbers: rest_0(numbers), ..self.nothing() };
         assert_eq!(self.gives(), gives, "{self:?}");
     }
 
     /// The call is refused, and leaves both images; a view tells no number.
-    fn refused(&self, number: u8) {
+    pub fn refused(&self, number: u8) {
         let number = if self.operation == 3 { 0 } else { number };
         assert_eq!(self.gives(), Gives { number, ..self.nothing() }, "{self:?}");
     }
@@ -84,7 +84,7 @@ impl Call {
     }
 
     /// The script ends here: it gives nothing for this call, nor for the one behind it.
-    fn ends(&self) {
+    pub fn ends(&self) {
         let good = Call { operation: 10, rack: File::new().0, ..Call::default() };
         assert_eq!(good.gives(), good.nothing());
         let all = [good.bytes(), self.bytes(), good.bytes()].concat();
@@ -121,7 +121,8 @@ fn decoded(rack: &Rack) -> Vec<u8> {
     bytes
 }
 
-/// The same call of every operation, on the records of a file with images after its events.
+/// The same call of every operation over a rack, on the records of a file with images after
+/// its events.
 fn every_operation(file: &File, node: u8, named: u8, event: &[u8]) -> Vec<Call> {
     let records = file.0[..file.0.len() - events_length(file)].to_vec();
     let call = Call { images: file.images(), node, named, ..Call::default() };
@@ -483,7 +484,7 @@ fn what_is_no_call_ends_the_script() {
     head[1..5].fill(0xFF);
     assert_eq!(script(&head), []);
     // Operations.
-    for operation in (0..=255).filter(|operation| !(1..=11).contains(operation)) {
+    for operation in (0..=255).filter(|operation| !(1..=12).contains(operation)) {
         Call { operation, ..empty() }.ends();
     }
     // Decoded racks of another length or with another kind, and events that are none.
@@ -657,7 +658,7 @@ fn any_bytes_do_not_panic() {
         let bytes = random.bytes(length);
         script(&bytes);
         // A head with counts that the rest of the bytes can fill.
-        let mut call = Call { operation: random.below(13) as u8, ..Call::default() };
+        let mut call = Call { operation: random.below(14) as u8, ..Call::default() };
         call.rack = if random.one_in(2) { decoded(&small().rack()) } else { records(&mut random) };
         call.event = bytes;
         call.images = small().images();

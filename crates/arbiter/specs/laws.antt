@@ -1,0 +1,4 @@
+pub mod Sets
+pub mod Search
+pub mod Places
+pub mod Answers

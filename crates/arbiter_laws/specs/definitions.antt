@@ -1,0 +1,3 @@
+pub mod Fair
+pub mod Calls
+pub mod Sharing

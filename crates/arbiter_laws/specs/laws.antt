@@ -1,0 +1,12 @@
+pub mod Count
+pub mod Order
+pub mod Steps
+pub mod Granted
+pub mod Live
+pub mod Measure
+pub mod Exact
+pub mod Fairness
+pub mod Met
+pub mod Called
+pub mod Rotation
+pub mod Proved
