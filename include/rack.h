@@ -1,7 +1,7 @@
 /* The calls of libmuzgante.a, for C.
  *
- * A rack is the bytes of its records: a host, then bridges (of two kinds) and devices, as a rack file has them before its first event
- * (README.md). Its registers are two images of 64 bytes a node: the bridges' and the devices', each in node order.
+ * A rack is the bytes of its records: a host, then bridges (of two kinds), devices and seat records, as a rack file has them before its
+ * first event (README.md). Its registers are two images of 64 bytes a node: the bridges' and the devices', each in node order.
  *
  * Every call returns 0 or the number of a refusal. A refused call leaves both images as they were and `answer` all 0. Nothing is asked
  * of the caller but that each pointer is good for its count of bytes (any pointer that is not null where the count is 0), that `answer`
@@ -22,9 +22,9 @@
 extern "C" {
 #endif
 
-/* Goes up where a prototype or a number below changes, or a call is new: rack_grant is there from 2 on. A new name for a new number
- * leaves it as it is. */
-#define RACK_VERSION 2
+/* Goes up where a prototype or a number below changes, or a call is new: rack_grant is there from 2 on, the seat that rack_run is
+ * told from 3 on. A new name for a new number leaves it as it is. */
+#define RACK_VERSION 3
 
 /* Limits. */
 enum {
@@ -34,12 +34,17 @@ enum {
     RACK_MOST_NODES = 96,
     RACK_NODE_BYTES = 64,      /* of a node's registers in its image */
     RACK_NODE_WINDOWS = 3,     /* windows of a bridge, regions of a device */
+    RACK_NODE_DWORDS = 16,     /* registers 00h to 3Fh: a bit of a seat's mask for each */
+    RACK_MOST_SEATS = 15,      /* seats 1 to 15 */
     RACK_MOST_REQUESTERS = 10, /* of a bus: members 0 to 9 of its arbiter */
     RACK_ANSWER_NUMBERS = 8
 };
 
 /* A node is its number, from 0 as the records come; this one stands for the host, and as a parent or holder for the root bus. */
 enum { RACK_NODE_HOST = 255 };
+
+/* The seat that may write every register and needs no record; 1 to 15 may write what their records grant. */
+enum { RACK_SEAT_ALL = 0 };
 
 /* A record is a byte of its kind and then its body: first the rack's, then events. */
 enum {
@@ -51,6 +56,8 @@ enum {
     RACK_KIND_MEMORY = 6,
     RACK_KIND_IO = 7,
     RACK_KIND_CHECK = 8,
+    RACK_KIND_SEAT = 9,         /* a rack record: what a seat may write of a node that stands before it */
+    RACK_KIND_SEAT_EVENT = 10,  /* an event: who acts from then on */
     RACK_KIND_OLDER_BRIDGE = 13 /* a rack record: a bridge without 32-bit I/O, 64-bit prefetchable memory and VGA 16-bit decode */
 };
 
@@ -67,13 +74,15 @@ enum {
     RACK_BODY_MEMORY = 10,             /* initiator, 0 read or 1 write, address (8) */
     RACK_BODY_IO = 6,                  /* initiator, 0 read or 1 write, address (4) */
     RACK_BODY_CHECK = 0,
+    RACK_BODY_SEAT = 4,       /* seat, node, mask (2): bit i for the dword at register 4 i */
+    RACK_BODY_SEAT_EVENT = 1, /* seat */
     RACK_BODY_OLDER_BRIDGE = 6 /* as a bridge's */
 };
 
 /* Refusals, in the order in which they are looked for. */
 enum {
     RACK_REFUSED_TOO_LONG = 1,      /* more than 65,536 bytes of rack */
-    RACK_REFUSED_KIND = 2,          /* a kind that is not 1 to 3 or 13 in the rack, or not 4 to 8 in the event, or no event byte */
+    RACK_REFUSED_KIND = 2,          /* a kind that is not 1 to 3, 9 or 13 in the rack, or not 4 to 8 or 10 in the event, or no event byte */
     RACK_REFUSED_CUT_SHORT = 3,     /* a record cut short; an event of another length than its own */
     RACK_REFUSED_HOST = 4,          /* no record, a first one that is no host, or a second host */
     RACK_REFUSED_AFTER_EVENT = 5,   /* files alone: a rack record after an event */
@@ -85,6 +94,8 @@ enum {
     RACK_REFUSED_IMAGE_LENGTH = 11, /* an image that is not 64 times its node count long */
     RACK_REFUSED_FIXED_BIT = 12,    /* a fixed bit that differs from its reset value */
     RACK_REFUSED_FIELD = 13,        /* a field of the event out of range, or a node or window that is missing */
+    RACK_REFUSED_SEAT_RECORD = 14,  /* a seat record for no earlier node, no seat 1 to 15, or a pair that is named already */
+    RACK_REFUSED_SEAT = 15,         /* a seat other than 0 without a record, as the acting seat or in a seat event */
     RACK_REFUSED_ARBITER = 20       /* rack_grant alone: a bit above 9, or a state that names a place its ring lacks */
 };
 
@@ -100,6 +111,8 @@ enum {
     RACK_ENDED_SILENT = 7,    /* nothing: the initiator may not drive its bus */
     RACK_ENDED_PASS = 8,      /* nothing: no two agents claim one address */
     RACK_ENDED_FAULT = 9,     /* holder, one of RACK_SPACE_.., the address or bus number, driver, the first two claimants */
+    RACK_ENDED_DENIED = 10,   /* crossings: the seat may not write that register of the node it reached, and nothing was stored */
+    RACK_ENDED_SEAT = 11,     /* the seat that a seat event names; the next call has to be told */
     RACK_ENDED_SPECIAL = 12   /* crossings, holder: a special cycle, which changes no register */
 };
 
@@ -128,15 +141,16 @@ enum {
     RACK_GRANT_NOBODY = 2  /* high, low: nobody requests, and the state is as it was */
 };
 
-/* One event (a record of kind 4 to 8) on the rack: how it ends, and both images as it leaves them. */
-uint8_t rack_run(const uint8_t *rack, size_t rack_count, const uint8_t *event, size_t event_count, uint8_t *bridges,
+/* One event (a record of kind 4 to 8 or 10) on the rack by the acting seat: how it ends, and both images as it leaves them. A seat event
+ * changes nothing: the call keeps no seat, so its caller passes the new one next time. */
+uint8_t rack_run(const uint8_t *rack, size_t rack_count, uint8_t seat, const uint8_t *event, size_t event_count, uint8_t *bridges,
                  size_t bridges_count, uint8_t *devices, size_t devices_count, uint64_t answer[RACK_ANSWER_NUMBERS]);
 
 /* The check of the rack with these registers: RACK_ENDED_PASS or RACK_ENDED_FAULT. */
 uint8_t rack_check(const uint8_t *rack, size_t rack_count, const uint8_t *bridges, size_t bridges_count, const uint8_t *devices,
                    size_t devices_count, uint64_t answer[RACK_ANSWER_NUMBERS]);
 
-/* Fills both images with the values at reset. Refused by 1 to 4, 6 to 10 and 11. */
+/* Fills both images with the values at reset. Refused by 1 to 4, 6 to 10, 11 and 14. */
 uint8_t rack_reset(const uint8_t *rack, size_t rack_count, uint8_t *bridges, size_t bridges_count, uint8_t *devices,
                    size_t devices_count);
 
@@ -176,6 +190,8 @@ static inline const char *rack_refusal_text(unsigned refusal)
     case RACK_REFUSED_IMAGE_LENGTH: return "an image has the wrong length";
     case RACK_REFUSED_FIXED_BIT: return "a fixed register bit differs from its reset value";
     case RACK_REFUSED_FIELD: return "a field is out of range, or names what is not there";
+    case RACK_REFUSED_SEAT_RECORD: return "a seat record names no earlier node, no seat from 1 to 15, or a seat and node that are named already";
+    case RACK_REFUSED_SEAT: return "the seat has no record";
     case RACK_REFUSED_ARBITER: return "a mask or request set has a bit above 9, or a state names a place its ring lacks";
     default: return "no refusal has this number";
     }

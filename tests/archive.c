@@ -34,7 +34,8 @@ static uint8_t call(const uint8_t *head, struct bytes rack, struct bytes event, 
 {
     switch (head[0]) {
     case 8:
-        return rack_run(rack.at, rack.count, event.at, event.count, bridges.at, bridges.count, devices.at, devices.count, answer);
+        return rack_run(rack.at, rack.count, head[11], event.at, event.count, bridges.at, bridges.count, devices.at, devices.count,
+                        answer);
     case 9:
         return rack_check(rack.at, rack.count, bridges.at, bridges.count, devices.at, devices.count, answer);
     case 10:

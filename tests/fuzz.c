@@ -2,7 +2,8 @@
  *
  * An input is one call of a script (CALLS.md, operations 8 to 12), its counts cut to the bytes that are there. Every buffer ends at a
  * page that may not be touched: the archive is not compiled with a sanitizer, and a step past a buffer's end is then seen all the same.
- * What a call promises in general is looked at: 0 or the number of a refusal; on a refusal all 0 and both images untouched; a step of the
+ * What a call promises in general is looked at: 0 or the number of a refusal; on a refusal all 0 and both images untouched; a denied write
+ * leaves both images too, and the event of a seat other than 0 leaves what the seat may not write, but for status bits; a step of the
  * arbiter grants a requester, and the next step takes the state that it gives.
  *
  *     clang -g -O1 -fsanitize=fuzzer,address tests/fuzz.c -Ltarget/staticlib -lmuzgante     (libFuzzer)
@@ -82,6 +83,52 @@ static uint8_t step(const uint8_t *head, uint64_t answer[RACK_ANSWER_NUMBERS])
     return code;
 }
 
+/* A node, and what a seat may write of it: a bit for each dword. */
+struct node {
+    int is_bridge;
+    unsigned grant;
+};
+
+/* The nodes of a rack that a call took, so its records are whole. */
+static size_t nodes_of(const uint8_t *rack, size_t count, uint8_t seat, struct node nodes[RACK_MOST_NODES])
+{
+    static const size_t body[] = {[RACK_KIND_HOST] = RACK_BODY_HOST, [RACK_KIND_BRIDGE] = RACK_BODY_BRIDGE,
+        [RACK_KIND_DEVICE] = RACK_BODY_DEVICE, [RACK_KIND_SEAT] = RACK_BODY_SEAT, [RACK_KIND_OLDER_BRIDGE] = RACK_BODY_OLDER_BRIDGE};
+    size_t found = 0;
+    for (size_t at = 0; at < count; at += 1 + body[rack[at]]) {
+        const uint8_t *record = rack + at;
+        if (record[0] == RACK_KIND_SEAT) {
+            expect(record[2] < found, "a seat record was taken before its node");
+            nodes[record[2]].grant |= record[1] == seat ? (unsigned)number(record + 3, 2) : 0;
+        } else if (record[0] != RACK_KIND_HOST) {
+            nodes[found++] = (struct node){record[0] != RACK_KIND_DEVICE, 0};
+        }
+    }
+    return found;
+}
+
+/* The bits of a register byte that are not status bits, which any event may set. */
+static unsigned kept(int is_bridge, size_t byte) { return byte == 0x07 || (is_bridge && byte == 0x1F) ? 0xFFu & ~0xF9u : 0xFF; }
+
+static void stays(struct node node, const uint8_t *now, const uint8_t *before)
+{
+    for (size_t byte = 0; byte < RACK_NODE_BYTES; byte++) {
+        int may_write = (node.grant >> byte / 4 & 1) == 1;
+        expect(may_write || ((now[byte] ^ before[byte]) & kept(node.is_bridge, byte)) == 0, "a seat wrote what it may not");
+    }
+}
+
+/* What an event of this seat left of both images, beside what they were. */
+static void within_grants(const struct node *nodes, size_t count, const uint8_t *const now[2], const uint8_t *const before[2])
+{
+    size_t next[2] = {0, 0};
+    for (size_t i = 0; i < count; i++) {
+        int image = nodes[i].is_bridge ? 0 : 1;
+        stays(nodes[i], now[image] + next[image], before[image] + next[image]);
+        next[image] += RACK_NODE_BYTES;
+    }
+}
+
 int LLVMFuzzerTestOneInput(const uint8_t *input, size_t size)
 {
     static struct guarded buffers[5];
@@ -105,10 +152,12 @@ int LLVMFuzzerTestOneInput(const uint8_t *input, size_t size)
     uint8_t *bridges = put(buffers[2], from[2], counts[2]), *devices = put(buffers[3], from[3], counts[3]);
     uint64_t *answer = (uint64_t *)(void *)(buffers[4].end - ANSWER_BYTES), zeros[RACK_ANSWER_NUMBERS] = {0};
     memset(answer, 0xA5, ANSWER_BYTES);
-    uint8_t code;
+    uint8_t code, seat = input[11];
+    int is_run = 0;
     switch ((input[0] + 2) % 5) { /* operation 8 is the first */
     case 0:
-        code = rack_run(rack, counts[0], event, counts[1], bridges, counts[2], devices, counts[3], answer);
+        is_run = 1;
+        code = rack_run(rack, counts[0], seat, event, counts[1], bridges, counts[2], devices, counts[3], answer);
         break;
     case 1:
         code = rack_check(rack, counts[0], bridges, counts[2], devices, counts[3], answer);
@@ -123,11 +172,21 @@ int LLVMFuzzerTestOneInput(const uint8_t *input, size_t size)
     default:
         code = step(input, answer);
     }
-    expect(code <= RACK_REFUSED_FIELD || code == RACK_REFUSED_ARBITER, "a number that is no refusal");
+    expect(code <= RACK_REFUSED_SEAT || code == RACK_REFUSED_ARBITER, "a number that is no refusal");
     expect(memcmp(rack, from[0], counts[0]) == 0 && memcmp(event, from[1], counts[1]) == 0, "the rack or the event was written");
+    int is_same = memcmp(bridges, from[2], counts[2]) == 0 && memcmp(devices, from[3], counts[3]) == 0;
     if (code != 0) {
         expect(memcmp(answer, zeros, ANSWER_BYTES) == 0, "a refused answer is not all 0");
-        expect(memcmp(bridges, from[2], counts[2]) == 0 && memcmp(devices, from[3], counts[3]) == 0, "a refusal changed an image");
+        expect(is_same, "a refusal changed an image");
+    } else if (is_run) {
+        struct node nodes[RACK_MOST_NODES];
+        const uint8_t *const now[] = {bridges, devices}, *const before[] = {from[2], from[3]};
+        int is_quiet = answer[0] == RACK_ENDED_DENIED || answer[0] == RACK_ENDED_SEAT;
+        expect(is_same || !is_quiet, "a denied write or a seat event changed an image");
+        expect(seat != RACK_SEAT_ALL || answer[0] != RACK_ENDED_DENIED, "a write of seat 0 was denied");
+        if (seat != RACK_SEAT_ALL) {
+            within_grants(nodes, nodes_of(rack, counts[0], seat, nodes), now, before);
+        }
     }
     return 0;
 }

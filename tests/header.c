@@ -39,6 +39,12 @@ static void add_older_bridge(struct rack *r, uint8_t parent, uint8_t device)
     add(r, RACK_KIND_OLDER_BRIDGE, RACK_BODY_OLDER_BRIDGE, parent, device);
 }
 static void add_device(struct rack *r, uint8_t parent, uint8_t device) { add(r, RACK_KIND_DEVICE, RACK_BODY_DEVICE, parent, device); }
+static void add_seat(struct rack *r, uint8_t seat, uint8_t node, uint16_t mask)
+{
+    add(r, RACK_KIND_SEAT, RACK_BODY_SEAT, seat, node);
+    r->bytes[r->count - 2] = (uint8_t)(mask & 255);
+    r->bytes[r->count - 1] = (uint8_t)(mask >> 8);
+}
 
 /* Host memory is the address 0 alone. */
 static void start(struct rack *r)
@@ -55,17 +61,22 @@ static uint8_t reset(const struct rack *r)
     return rack_reset(r->bytes, r->count, bridges, RACK_NODE_BYTES * r->bridges, devices, RACK_NODE_BYTES * r->devices);
 }
 
+static uint8_t run_as(const struct rack *r, uint8_t seat, const uint8_t *event, size_t count, uint64_t answer[RACK_ANSWER_NUMBERS])
+{
+    return rack_run(r->bytes, r->count, seat, event, count, bridges, RACK_NODE_BYTES * r->bridges, devices,
+                    RACK_NODE_BYTES * r->devices, answer);
+}
+
 static uint8_t run(const struct rack *r, const uint8_t *event, size_t count, uint64_t answer[RACK_ANSWER_NUMBERS])
 {
-    return rack_run(r->bytes, r->count, event, count, bridges, RACK_NODE_BYTES * r->bridges, devices, RACK_NODE_BYTES * r->devices,
-                    answer);
+    return run_as(r, RACK_SEAT_ALL, event, count, answer);
 }
 
 static struct rack r;
 
 static void rack_bodies(void)
 {
-    static const uint8_t kinds[] = {RACK_KIND_HOST, RACK_KIND_BRIDGE, RACK_KIND_DEVICE, RACK_KIND_OLDER_BRIDGE};
+    static const uint8_t kinds[] = {RACK_KIND_HOST, RACK_KIND_BRIDGE, RACK_KIND_DEVICE, RACK_KIND_SEAT, RACK_KIND_OLDER_BRIDGE};
     for (size_t i = 0; i < sizeof kinds; i++) {
         start(&r);
         if (kinds[i] == RACK_KIND_BRIDGE) {
@@ -74,8 +85,11 @@ static void rack_bodies(void)
             add_device(&r, RACK_NODE_HOST, 0);
         } else if (kinds[i] == RACK_KIND_OLDER_BRIDGE) {
             add_older_bridge(&r, RACK_NODE_HOST, 0);
+        } else if (kinds[i] == RACK_KIND_SEAT) {
+            add_device(&r, RACK_NODE_HOST, 0);
+            add_seat(&r, 1, 0, 0);
         }
-        expect(reset(&r) == 0, "a rack of one record of a kind is refused");
+        expect(reset(&r) == 0, "a rack that ends with a record of a kind is refused");
         r.count--;
         expect(reset(&r) == RACK_REFUSED_CUT_SHORT, "a rack record that lacks a byte is not cut short");
         r.count += 2;
@@ -95,6 +109,7 @@ static void event_bodies(void)
         {RACK_KIND_MEMORY, RACK_BODY_MEMORY, RACK_ENDED_SILENT},
         {RACK_KIND_IO, RACK_BODY_IO, RACK_ENDED_SILENT},
         {RACK_KIND_CHECK, RACK_BODY_CHECK, RACK_ENDED_PASS},
+        {RACK_KIND_SEAT_EVENT, RACK_BODY_SEAT_EVENT, RACK_ENDED_SEAT},
     };
     start(&r);
     add_device(&r, RACK_NODE_HOST, 0);
@@ -146,6 +161,74 @@ static void special_cycle(void)
     expect(memcmp(before, bridges, sizeof before) == 0, "a special cycle changes a register");
     expect(run(&r, of_register, sizeof of_register, answer) == 0 && answer[0] == RACK_ENDED_UNCLAIMED, "a read is taken for a special cycle");
     expect(memcmp(before, bridges, sizeof before) != 0, "a read that nobody answers sets no status bit");
+}
+
+/* Seat 2 may write dword 1 of the device; the last seat may write nothing of the bridge, and is known for it. */
+static void start_lesson(void)
+{
+    start(&r);
+    add_bridge(&r, RACK_NODE_HOST, 0);
+    add_device(&r, 0, 0);
+    add_seat(&r, 2, 1, 1 << 1);
+    add_seat(&r, RACK_MOST_SEATS, 0, 0);
+    expect(reset(&r) == 0, "a rack with seats is refused");
+    bridges[0x19] = bridges[0x1A] = 5; /* secondary and subordinate bus */
+}
+
+/* A write outside the grant is denied behind its bridge and stores nothing; inside, from 40h on, and by the seat for all it is stored. */
+static void denied_write(void)
+{
+    uint64_t answer[RACK_ANSWER_NUMBERS];
+    uint8_t command[1 + RACK_BODY_CONFIGURATION_WRITE] = {RACK_KIND_CONFIGURATION_WRITE, 5, 0, 0x04, 1, 7};
+    uint8_t line[1 + RACK_BODY_CONFIGURATION_WRITE] = {RACK_KIND_CONFIGURATION_WRITE, 5, 0, 0x3C, 1, 9};
+    start_lesson();
+    uint8_t before[RACK_NODE_BYTES];
+    memcpy(before, devices, sizeof before);
+    expect(run_as(&r, 2, line, sizeof line, answer) == 0 && answer[0] == RACK_ENDED_DENIED && answer[1] == 1 && answer[2] == 0,
+           "a write outside the grant ends in another way");
+    expect(run_as(&r, RACK_MOST_SEATS, command, sizeof command, answer) == 0 && answer[0] == RACK_ENDED_DENIED,
+           "a seat writes a node without a record of its own");
+    expect(memcmp(before, devices, sizeof before) == 0, "a denied write changes a register");
+    expect(run_as(&r, 2, command, sizeof command, answer) == 0 && answer[0] == RACK_ENDED_STORED && devices[4] == 7,
+           "a granted write is not stored");
+    expect(run(&r, line, sizeof line, answer) == 0 && answer[0] == RACK_ENDED_STORED && devices[0x3C] == 9,
+           "a write of the seat for all is not stored");
+    line[3] = 4 * RACK_NODE_DWORDS;
+    expect(run_as(&r, 2, line, sizeof line, answer) == 0 && answer[0] == RACK_ENDED_STORED, "a write to 40h is denied");
+}
+
+/* A seat event answers with its seat and changes nothing: who acts is what the next call is told. */
+static void seat_events(void)
+{
+    uint64_t answer[RACK_ANSWER_NUMBERS];
+    uint8_t check[] = {RACK_KIND_CHECK};
+    start_lesson();
+    for (unsigned seat = 0; seat <= UINT8_MAX; seat++) {
+        uint8_t event[] = {RACK_KIND_SEAT_EVENT, (uint8_t)seat};
+        int is_known = seat == RACK_SEAT_ALL || seat == 2 || seat == RACK_MOST_SEATS;
+        uint8_t code = is_known ? 0 : RACK_REFUSED_SEAT;
+        expect(run(&r, event, sizeof event, answer) == code, "a seat event knows other seats than the rack");
+        expect(answer[0] == (is_known ? RACK_ENDED_SEAT : 0) && answer[1] == (is_known ? seat : 0), "a seat event ends in another way");
+        expect(run_as(&r, (uint8_t)seat, check, sizeof check, answer) == code, "a call knows other seats than the rack");
+    }
+}
+
+/* Each fault of a seat record, in every call that takes a rack; it comes before an acting seat that is not known. */
+static void seat_records(void)
+{
+    static const uint8_t faulty[][2] = {{0, 0}, {RACK_MOST_SEATS + 1, 0}, {UINT8_MAX, 0}, {2, 1}, {1, 2}, {1, RACK_NODE_HOST}};
+    for (size_t i = 0; i < sizeof faulty / sizeof *faulty; i++) {
+        uint64_t answer[RACK_ANSWER_NUMBERS];
+        uint8_t check[] = {RACK_KIND_CHECK};
+        const size_t one = RACK_NODE_BYTES;
+        const uint8_t refused = RACK_REFUSED_SEAT_RECORD;
+        start_lesson();
+        add_seat(&r, faulty[i][0], faulty[i][1], 0);
+        expect(reset(&r) == refused, "a faulty seat record is taken by rack_reset");
+        expect(run_as(&r, 9, check, sizeof check, answer) == refused, "a faulty seat record is taken by rack_run");
+        expect(rack_check(r.bytes, r.count, bridges, one, devices, one, answer) == refused, "one is taken by rack_check");
+        expect(rack_window(r.bytes, r.count, bridges, one, devices, one, 0, 0, answer) == refused, "one is taken by rack_window");
+    }
 }
 
 static void access_of_the_host(void)
@@ -247,9 +330,29 @@ static void arbiter(void)
     }
 }
 
+static void distinct(const unsigned *numbers, size_t count)
+{
+    for (size_t i = 0; i < count; i++) {
+        for (size_t k = 0; k < i; k++) {
+            expect(numbers[i] != numbers[k], "two names have one number");
+        }
+    }
+}
+
+static void kinds_and_endings(void)
+{
+    static const unsigned kinds[] = {RACK_KIND_HOST, RACK_KIND_BRIDGE, RACK_KIND_DEVICE, RACK_KIND_CONFIGURATION_WRITE,
+        RACK_KIND_CONFIGURATION_READ, RACK_KIND_MEMORY, RACK_KIND_IO, RACK_KIND_CHECK, RACK_KIND_SEAT, RACK_KIND_SEAT_EVENT,
+        RACK_KIND_OLDER_BRIDGE};
+    static const unsigned endings[] = {RACK_ENDED_DATA, RACK_ENDED_STORED, RACK_ENDED_OWNER, RACK_ENDED_HOST, RACK_ENDED_UNCLAIMED,
+        RACK_ENDED_CLASH, RACK_ENDED_SILENT, RACK_ENDED_PASS, RACK_ENDED_FAULT, RACK_ENDED_DENIED, RACK_ENDED_SEAT, RACK_ENDED_SPECIAL};
+    distinct(kinds, sizeof kinds / sizeof *kinds);
+    distinct(endings, sizeof endings / sizeof *endings);
+}
+
 static int is_refusal(unsigned number)
 {
-    return (number >= RACK_REFUSED_TOO_LONG && number <= RACK_REFUSED_FIELD) || number == RACK_REFUSED_ARBITER;
+    return (number >= RACK_REFUSED_TOO_LONG && number <= RACK_REFUSED_SEAT) || number == RACK_REFUSED_ARBITER;
 }
 
 static void texts(void)
@@ -277,8 +380,8 @@ static void *lesson(void *seed)
     int is_good = rack_reset(r.bytes, r.count, none, 0, image, sizeof image) == 0;
     for (unsigned i = 0; i < 2000; i++) {
         write[5] = (uint8_t)(own + i);
-        is_good &= rack_run(r.bytes, r.count, write, sizeof write, none, 0, image, sizeof image, answer) == 0;
-        is_good &= rack_run(r.bytes, r.count, read, sizeof read, none, 0, image, sizeof image, answer) == 0;
+        is_good &= rack_run(r.bytes, r.count, RACK_SEAT_ALL, write, sizeof write, none, 0, image, sizeof image, answer) == 0;
+        is_good &= rack_run(r.bytes, r.count, RACK_SEAT_ALL, read, sizeof read, none, 0, image, sizeof image, answer) == 0;
         is_good &= answer[0] == RACK_ENDED_DATA && answer[2] == write[5];
     }
     return is_good ? seed : NULL;
@@ -305,12 +408,16 @@ int main(void)
     event_bodies();
     older_bridge();
     special_cycle();
+    denied_write();
+    seat_events();
+    seat_records();
     access_of_the_host();
     limits();
     image_length();
     ends_of_windows(add_bridge);
     ends_of_windows(add_older_bridge);
     arbiter();
+    kinds_and_endings();
     texts();
     threads();
     puts("include/rack.h names the numbers that the calls go by");

@@ -1,14 +1,23 @@
-"""Random racks, their configuration and accesses, as records of a rack file. Everything follows from the given generator's seed."""
+"""Random racks, their seats, configuration and accesses, as records of a rack file. Everything follows from the given generator's seed."""
+import collections
 
 HOST = 255
 CHECK = b"\x08"
+WRITE, SEAT, SEAT_EVENT = 4, 9, 10
 BRIDGE, DEVICE, OLDER_BRIDGE = 2, 3, 13
 BRIDGES = (BRIDGE, OLDER_BRIDGE)
+NODES = (*BRIDGES, DEVICE)
+RECORD_BYTES = {1: 17, BRIDGE: 7, DEVICE: 13, WRITE: 9, 5: 4, 6: 11, 7: 7, 8: 1, SEAT: 5, SEAT_EVENT: 2, OLDER_BRIDGE: 7}
+SEATS = range(1, 16)  # those that need a record; seat 0 may write all
+DWORDS = 16  # of a node's registers, a bit of a mask each
 COMMAND, BUSES, IO_WINDOW, MEMORY, PREFETCHABLE = 0x04, 0x18, 0x1C, 0x20, 0x24
 PREFETCHABLE_BASE_UPPER, PREFETCHABLE_LIMIT_UPPER, IO_UPPER, CONTROL = 0x28, 0x2C, 0x30, 0x3C
 OPTIONS = (IO_WINDOW, PREFETCHABLE, PREFETCHABLE_BASE_UPPER, PREFETCHABLE_LIMIT_UPPER, IO_UPPER, CONTROL)
 SPECIAL_CYCLE = 8 * 31 + 7  # device and function of a special cycle, with register 0
 EXPONENTS = {1: (2, 8), 2: (4, 31), 3: (4, 31)}
+
+# What a seat may write of a node; its record stands behind the rack's first `behind` nodes.
+Grant = collections.namedtuple("Grant", "seat node mask behind")
 
 
 def number(value, count):
@@ -16,7 +25,24 @@ def number(value, count):
 
 
 def write(bus, device, register, enables, data):
-    return bytes([4, bus, device, register, enables]) + number(data, 4)
+    return bytes([WRITE, bus, device, register, enables]) + number(data, 4)
+
+
+def seat_record(seat, node, mask):
+    return bytes([SEAT, seat, node]) + number(mask, 2)
+
+
+def seat_event(seat):
+    return bytes([SEAT_EVENT, seat])
+
+
+def records_of(file):
+    """The records of a file with their offsets, up to the first of no kind; the last one may be cut short."""
+    at = 0
+    while at < len(file) and file[at] in RECORD_BYTES:
+        length = RECORD_BYTES[file[at]]
+        yield at, file[at : at + length]
+        at += length
 
 
 def special_cycle(rng, bus):
@@ -25,7 +51,7 @@ def special_cycle(rng, bus):
 
 
 def is_special_cycle(event):
-    return event[:1] == b"\x04" and event[2:4] == bytes([SPECIAL_CYCLE, 0])
+    return event[:1] == bytes([WRITE]) and event[2:4] == bytes([SPECIAL_CYCLE, 0])
 
 
 def read(bus, device, register):
@@ -59,11 +85,20 @@ class Rack:
     """A tree of nodes below a host, with the addresses and bus numbers that firmware would give it."""
 
     def __init__(self, first, last):
-        self.first, self.last, self.nodes = first, last, []
+        self.first, self.last, self.nodes, self.grants = first, last, [], []
         self.is_high = True  # 64-bit regions lie above 4 GiB, where no older bridge's window reaches
 
     def records(self):
-        return [b"\x01" + number(self.first, 8) + number(self.last, 8)] + [n.record() for n in self.nodes]
+        out = [b"\x01" + number(self.first, 8) + number(self.last, 8)]
+        for i, node in enumerate(self.nodes):
+            out += self.seat_records(i) + [node.record()]
+        return out + self.seat_records(len(self.nodes))
+
+    def seat_records(self, behind):
+        return [seat_record(g.seat, g.node, g.mask) for g in self.grants if g.behind == behind]
+
+    def seats(self):
+        return sorted({g.seat for g in self.grants})
 
     def on_bus(self, holder):
         return [i for i, n in enumerate(self.nodes) if n.parent == holder]
@@ -290,3 +325,42 @@ def events(rng, rack, firmware, count, checks):
     for _ in range(checks):
         out.insert(rng.randint(0, len(out)), CHECK)
     return out
+
+
+def written(rack, firmware, later):
+    """The dwords of each node that the configuration writes among the events name, as masks."""
+    node_at = {firmware.target(i): i for i in range(len(rack.nodes))}
+    masks = [0] * len(rack.nodes)
+    for event in later:
+        node = node_at.get((event[1], event[2])) if event[0] == WRITE else None
+        if node is not None and event[3] < 4 * DWORDS:
+            masks[node] |= 1 << event[3] // 4
+    return masks
+
+
+def grant(rng, rack, masks):
+    """Grants of some seats for some nodes: none of a node, all of it, anything, or just what `masks` has of it, with a bit more or less;
+    their records in any order, right behind their nodes, at the end or between."""
+    count = len(rack.nodes)
+    for seat in rng.sample(SEATS, rng.choice((1, 2, 2, 3, 5, 15))) if count else ():
+        for node in rng.sample(range(count), min(count, rng.choice((1, 2, 4, count)))):
+            near = masks[node] ^ 1 << rng.randrange(DWORDS)
+            mask = rng.choice((0, 0xFFFF, rng.getrandbits(DWORDS), masks[node], masks[node], near))
+            rack.grants.append(Grant(seat, node, mask, rng.choice((node + 1, count, rng.randint(node + 1, count)))))
+    rng.shuffle(rack.grants)
+
+
+def try_a_write(rng, rack, firmware):
+    """A configuration write to a node that is there, of registers below 40h but for some: what a seat may or may not do."""
+    dword = rng.randrange(DWORDS) if rng.random() < 0.9 else rng.randint(DWORDS, 63)
+    return write(*firmware.target(rng.randrange(len(rack.nodes))), 4 * dword, rng.choice((15, rng.getrandbits(4))), rng.getrandbits(32))
+
+
+def take_turns(rng, rack, firmware, later):
+    """Seat events among the events, each before a write or two: the rack's seats in turn and seat 0 again. Firmware's writes, which come
+    first, are mostly left to seat 0, so that the seats reach what lies behind bridges."""
+    least = rng.choice((0, len(later) // 2, len(later) * 3 // 4))
+    places = sorted((rng.randint(least, len(later)) for _ in range(rng.randint(2, 8))), reverse=True)
+    for at in places:  # from the back, so that the places in front stay
+        tried = [try_a_write(rng, rack, firmware) for _ in range(rng.randint(0, 2))]
+        later[at:at] = [seat_event(rng.choice([0] + 2 * rack.seats()))] + tried

@@ -1,5 +1,8 @@
-"""Random scripts of calls (CALLS.md): racks with the registers that firmware would write or any others, damaged racks, images, events."""
-from racks import BRIDGE, CHECK, DEVICE, EXPONENTS, HOST, OLDER_BRIDGE, Firmware, Node, access, configuration, number, random_rack
+"""Random scripts of calls (CALLS.md): racks with the registers that firmware would write or any others, with seats, damaged racks, images,
+events."""
+import racks
+from racks import BRIDGE, CHECK, DEVICE, DWORDS, EXPONENTS, HOST, OLDER_BRIDGE, SEAT, SEAT_EVENT, SEATS
+from racks import Firmware, Grant, Node, access, configuration, number, random_rack, seat_event
 
 DECODED = (1, 2, 3, 4, 5, 6, 7)
 ARCHIVE = (8, 9, 10, 11)
@@ -7,7 +10,7 @@ STEP = 12  # of the arbiter, of both programs
 NAMING = (1, 2, 3, 4, 5, 11)  # operations that name a node
 RUNNING = (6, 8)  # operations that run an event
 NODES = 96
-RECORD_BYTES = {1: 17, BRIDGE: 7, DEVICE: 13, OLDER_BRIDGE: 7}
+SEATED = 0.45  # the share of racks that have seats
 
 
 def spread(values):
@@ -104,18 +107,38 @@ def damage(rng, rack):
             node.regions[rng.randrange(3)] = (rng.randint(0, 4), rng.randint(0, 34))
 
 
+def damage_seats(rng, rack):
+    """A grant out of order or two: a node that is missing, or that stands behind the record; no such seat; a pair twice. Over a decoded
+    rack only a missing node can be written."""
+    count = len(rack.nodes)
+    for _ in range(rng.choice((1, 1, 2))):
+        seat, node, behind = rng.choice(SEATS), rng.randrange(count) if count else 0, rng.choice((count, rng.randint(0, count)))
+        missing = rng.choice((count, count, rng.randint(count, 255), HOST))
+        ways = [(seat, missing), (seat, missing), (0, node), (rng.choice((16, rng.randint(17, 255))), node), (seat, max(node, behind))]
+        ways += [(g.seat, g.node) for g in rack.grants[:1]]
+        rack.grants.append(Grant(*rng.choice(ways), rng.getrandbits(DWORDS), behind))
+
+
+def decoded_seats(rng, rack):
+    """For each pair of seat and node whether it is named, and its mask, which may be anything where it is not."""
+    named = {(g.seat, g.node): g.mask for g in rack.grants}
+    idle = rng.choice((0, 0xFFFF))
+    pairs = ((seat, node) for seat in SEATS for node in range(NODES))
+    return b"".join(bytes([pair in named]) + number(named.get(pair, idle), 2) for pair in pairs)
+
+
 def decoded(rng, rack):
     rows = [bytes([n.kind, n.parent, n.device]) + number(n.ids, 4) + bytes(x for r in n.regions for x in r) for n in rack.nodes]
     rows += [Node(DEVICE, HOST, 0).record()] * (NODES - len(rows))
     count = len(rack.nodes) if rng.random() < 0.97 else rng.choice((0, 96, 97, 255, len(rack.nodes) + 1))
-    return number(rack.first, 8) + number(rack.last, 8) + bytes([min(count, 255)]) + b"".join(rows[:NODES])
+    return number(rack.first, 8) + number(rack.last, 8) + bytes([min(count, 255)]) + b"".join(rows[:NODES]) + decoded_seats(rng, rack)
 
 
 def rack_bytes(rng, rack):
     records = rack.records()
     way = rng.random()
     if way < 0.04:
-        records.insert(rng.randint(0, len(records)), rng.choice((CHECK, b"\x01" + bytes(16), bytes([rng.randint(0, 255)]))))
+        records.insert(rng.randint(0, len(records)), rng.choice((CHECK, seat_event(0), b"\x01" + bytes(16), bytes([rng.randint(0, 255)]))))
     file = b"".join(records)
     if 0.04 <= way < 0.07:
         file = file[: rng.randint(0, len(file))]
@@ -124,8 +147,19 @@ def rack_bytes(rng, rack):
     return file
 
 
+def random_seat(rng, rack):
+    """A seat for a call or a seat event: one of the rack's or seat 0; seldom any other, above 15 too."""
+    if rng.random() < 0.1:
+        return rng.choice((rng.choice(SEATS), 16, rng.randint(16, 255)))
+    return rng.choice([0] + 4 * rack.seats())
+
+
 def random_event(rng, rack, firmware):
-    event = rng.choice((lambda: access(rng, rack, firmware), lambda: configuration(rng, rack, firmware), lambda: CHECK))()
+    makers = 3 * [lambda: access(rng, rack, firmware)] + 3 * [lambda: configuration(rng, rack, firmware)]
+    makers += [lambda: CHECK, lambda: seat_event(random_seat(rng, rack))]
+    if rack.grants:
+        makers += 3 * [lambda: racks.try_a_write(rng, rack, firmware)]
+    event = rng.choice(makers)()
     if len(event) > 1 and rng.random() < 0.15:  # a field out of range
         at = rng.randrange(1, min(len(event), 5))
         event = event[:at] + bytes([rng.randint(0, 255)]) + event[at + 1 :]
@@ -134,7 +168,8 @@ def random_event(rng, rack, firmware):
 
 def any_bytes(rng, event):
     """An event as C may hand it over: cut short, too long, of no kind."""
-    return rng.choice((event[: rng.randint(0, len(event))], event + b"\x00", bytes([rng.choice((0, 1, 3, 9, OLDER_BRIDGE, 255))]) + event[1:]))
+    kind = rng.choice((0, 1, 3, SEAT, SEAT_EVENT, OLDER_BRIDGE, 255))
+    return rng.choice((event[: rng.randint(0, len(event))], event + b"\x00", bytes([kind]) + event[1:]))
 
 
 def event_of(call):
@@ -143,16 +178,22 @@ def event_of(call):
     return call[at : at + int.from_bytes(call[5:7], "little")]
 
 
+def rack_of(call):
+    """The bytes of a call's rack."""
+    return call[18 : 18 + int.from_bytes(call[1:5], "little")]
+
+
 def node_kinds(call):
     """The kinds of the nodes of a call's rack, as far as it can be read."""
-    rack = call[18 : 18 + int.from_bytes(call[1:5], "little")]
+    rack = rack_of(call)
     if call[0] in DECODED:
-        return list(rack[17:][::13][: rack[16]])
-    at, kinds = 0, []
-    while at < len(rack) and rack[at] in RECORD_BYTES:
-        kinds.append(rack[at])
-        at += RECORD_BYTES[rack[at]]
-    return kinds[1:]
+        return list(rack[17 : 17 + 13 * NODES : 13][: rack[16]])
+    return [record[0] for _, record in racks.records_of(rack) if record[0] in racks.NODES]
+
+
+def has_seats(call):
+    """Whether a call's rack bytes have a seat record, as far as they can be read."""
+    return any(record[0] == SEAT for _, record in racks.records_of(rack_of(call)))
 
 
 def named_kind(call):
@@ -178,21 +219,29 @@ def random_step(rng):
 
 
 def random_call(rng, operations, steps=0.05):
-    """A call of one of the operations, or a step of the arbiter, which is rarer."""
+    """A call of one of the operations, runs of an event, which can end in so many ways, more often, or a step of the arbiter, which is
+    rarer."""
     size = rng.choices(((0, 0), (1, 2), (3, 6), (8, 20), (32, 64)), (2, 10, 20, 4, 2))[0]
     rack = random_rack(rng, size[0], size[1], rng.choice(("any", "chain", "wide")))
     firmware = Firmware(rack)
+    if rng.random() < SEATED:
+        racks.grant(rng, rack, [rng.getrandbits(DWORDS)] * len(rack.nodes))
     bridges, devices = random_images(rng, rack, firmware)
-    event = random_event(rng, rack, firmware)
+    event, seat = random_event(rng, rack, firmware), random_seat(rng, rack)
     if rng.random() < 0.25:
         damage(rng, rack)
-    operation = STEP if rng.random() < steps else rng.choice(operations)
+    if rng.random() < 0.12:
+        damage_seats(rng, rack)
+    weights = [3 if operation in RUNNING else 1 for operation in operations]
+    operation = STEP if rng.random() < steps else rng.choices(operations, weights)[0]
     if ARCHIVE[0] in operations:
         rack_part = rack_bytes(rng, rack)
         event = any_bytes(rng, event) if rng.random() < 0.1 else event
     else:
         rack_part = decoded(rng, rack)
     node = rng.randrange(len(rack.nodes)) if rack.nodes and rng.random() < 0.95 else rng.randint(0, 255)
+    if operation in RUNNING:
+        node = seat
     most = 3 if operation in (4, 5, 11) else 255
     index = rng.choice((rng.randint(0, most), 4 * rng.randint(0, 16) % (most + 1)))
     head = bytes([operation]) + number(len(rack_part), 4) + number(len(event), 2) + number(len(bridges), 2) + number(len(devices), 2)

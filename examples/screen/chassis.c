@@ -12,20 +12,35 @@ static size_t record_bytes(uint8_t kind)
     case RACK_KIND_BRIDGE: return 1 + RACK_BODY_BRIDGE;
     case RACK_KIND_OLDER_BRIDGE: return 1 + RACK_BODY_OLDER_BRIDGE;
     case RACK_KIND_DEVICE: return 1 + RACK_BODY_DEVICE;
+    case RACK_KIND_SEAT: return 1 + RACK_BODY_SEAT;
     default: return 0;
     }
 }
 
-static bool is_event(uint8_t kind) { return kind >= RACK_KIND_CONFIGURATION_WRITE && kind <= RACK_KIND_CHECK; }
+static bool is_event(uint8_t kind)
+{
+    return (kind >= RACK_KIND_CONFIGURATION_WRITE && kind <= RACK_KIND_CHECK) || kind == RACK_KIND_SEAT_EVENT;
+}
+
+/* A record that has no room here is one that the calls will refuse. */
+static void take_record(struct chassis *c, const uint8_t *record)
+{
+    uint8_t kind = record[0];
+    if (kind == RACK_KIND_SEAT) {
+        if (record[AT_SEAT] <= RACK_MOST_SEATS && record[AT_NODE] < RACK_MOST_NODES) {
+            c->grant[record[AT_SEAT]][record[AT_NODE]] = record;
+        }
+    } else if (kind != RACK_KIND_HOST && c->nodes < RACK_MOST_NODES) {
+        c->node[c->nodes++] = record;
+    }
+}
 
 /* The rack records at the start of the file: up to an event, or to a record that the calls will refuse. */
 static void find_records(struct chassis *c, size_t length)
 {
     size_t at = 0, count;
     while (at < length && (count = record_bytes(c->rack[at])) > 0 && at + count <= length) {
-        if (c->rack[at] != RACK_KIND_HOST && c->nodes < RACK_MOST_NODES) {
-            c->node[c->nodes++] = &c->rack[at];
-        }
+        take_record(c, &c->rack[at]);
         at += count;
     }
     bool is_taken_apart = length <= RACK_MOST_BYTES && at < length && is_event(c->rack[at]);
@@ -45,6 +60,30 @@ const uint8_t *registers_of(const struct chassis *c, unsigned node)
         place += is_bridge(c, i) == is_bridge(c, node);
     }
     return (is_bridge(c, node) ? c->bridges : c->devices) + RACK_NODE_BYTES * place;
+}
+
+bool has_record(const struct chassis *c, unsigned seat)
+{
+    bool has = false;
+    for (unsigned i = 0; i < c->nodes; i++) {
+        has = has || c->grant[seat][i] != NULL;
+    }
+    return has;
+}
+
+bool has_seats(const struct chassis *c)
+{
+    bool has = false;
+    for (unsigned seat = 1; seat <= RACK_MOST_SEATS; seat++) {
+        has = has || has_record(c, seat);
+    }
+    return has;
+}
+
+uint16_t granted(const struct chassis *c, unsigned seat, unsigned node)
+{
+    const uint8_t *record = c->grant[seat][node];
+    return (uint16_t)(record == NULL ? 0 : record[AT_MASK] | record[AT_MASK + 1] << 8);
 }
 
 uint8_t reset(struct chassis *c)

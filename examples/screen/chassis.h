@@ -1,4 +1,4 @@
-/* A rack, its nodes by number, and its registers. */
+/* A rack, its nodes by number, its seats, its registers, and who acts. */
 #ifndef SCREEN_CHASSIS_H
 #define SCREEN_CHASSIS_H
 
@@ -11,12 +11,17 @@ struct chassis {
     size_t count;                      /* bytes of rack records */
     const uint8_t *node[RACK_MOST_NODES];
     unsigned nodes;
+    const uint8_t *grant[1 + RACK_MOST_SEATS][RACK_MOST_NODES]; /* a seat's record for a node, or null */
+    uint8_t seat;                                               /* who acts */
     uint8_t bridges[RACK_MOST_BRIDGES * RACK_NODE_BYTES], devices[RACK_MOST_DEVICES * RACK_NODE_BYTES];
     size_t bridge_bytes, device_bytes;
 };
 
 /* Where the fields of a bridge's and of a device's record lie, the kind's byte counted. */
 enum { AT_PARENT = 1, AT_DEVICE = 2, AT_VENDOR_ID = 3, AT_DEVICE_ID = 5 };
+
+/* And those of a seat record. */
+enum { AT_SEAT = 1, AT_NODE = 2, AT_MASK = 3 };
 
 /* The rack records of a file, with registers at reset; false where that cannot be, which is said. */
 bool load(struct chassis *c, const char *path);
@@ -28,5 +33,12 @@ bool is_bridge(const struct chassis *c, unsigned node);
 
 /* A node's 64 registers in the image that holds them. */
 const uint8_t *registers_of(const struct chassis *c, unsigned node);
+
+/* Whether a seat other than 0 has a record, and whether any has. */
+bool has_record(const struct chassis *c, unsigned seat);
+bool has_seats(const struct chassis *c);
+
+/* What a seat other than 0 may write of a node: bit i for the dword at register 4 i. */
+uint16_t granted(const struct chassis *c, unsigned seat, unsigned node);
 
 #endif

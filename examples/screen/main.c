@@ -1,10 +1,12 @@
 /* A small classroom screen: the tree of a rack with both ends of every window and region, register writes and accesses from the
- * keyboard, and where each access went; beside it a lesson on sharing a bus. It links libmuzgante.a and decodes no register itself.
+ * keyboard, where each access went, and which seat may write what; beside it a lesson on sharing a bus. It links libmuzgante.a and
+ * decodes no register itself.
  *
  *     screen RACK        a rack file; the screen takes its rack records and leaves its events to the class
  */
 #include "arbiter.h"
 #include "chassis.h"
+#include "seat.h"
 #include "show.h"
 #include "words.h"
 
@@ -24,12 +26,19 @@ static void run(struct chassis *c, const uint8_t *event, size_t count)
     before = *c;
     uint64_t answer[RACK_ANSWER_NUMBERS];
     uint8_t refusal =
-        rack_run(c->rack, c->count, event, count, c->bridges, c->bridge_bytes, c->devices, c->device_bytes, answer);
+        rack_run(c->rack, c->count, c->seat, event, count, c->bridges, c->bridge_bytes, c->devices, c->device_bytes, answer);
     if (refusal != 0) {
         show_refusal(refusal);
         return;
     }
-    show_answer(c, answer);
+    if (answer[0] == RACK_ENDED_SEAT) {
+        c->seat = (uint8_t)answer[1]; /* no call keeps it */
+    }
+    if (answer[0] == RACK_ENDED_DENIED) {
+        show_denied(c, event, answer[1]);
+    } else {
+        show_answer(c, answer);
+    }
     show_changes(c, &before);
 }
 
@@ -152,6 +161,26 @@ static void obey_node(struct chassis *c, const char *const word[])
     }
 }
 
+static void obey_seat(struct chassis *c, const char *const word[])
+{
+    (void)word;
+    show_seat(c);
+}
+
+static void obey_seat_number(struct chassis *c, const char *const word[])
+{
+    uint8_t event[1 + RACK_BODY_SEAT_EVENT] = {RACK_KIND_SEAT_EVENT};
+    uint64_t seat;
+    if (!decimal(word[0], "seat", RACK_MOST_SEATS, &seat)) {
+        return;
+    }
+    event[1] = (uint8_t)seat;
+    run(c, event, sizeof event);
+    if (c->seat != seat) {
+        show_seats(c);
+    }
+}
+
 static void obey_arbiter(struct chassis *c, const char *const word[])
 {
     (void)c;
@@ -179,7 +208,7 @@ static void obey_reset(struct chassis *c, const char *const word[])
 static void obey_help(struct chassis *c, const char *const word[]);
 
 static const struct command commands[] = {
-    {"tree", "", "the rack with both ends of every window and region", 0, obey_tree},
+    {"tree", "", "the rack with both ends of every window and region, and its seats", 0, obey_tree},
     {"write", "BUS DEVICE REGISTER ENABLES DATA", "a configuration write, all in hexadecimal", 5, obey_write},
     {"read", "BUS DEVICE REGISTER", "a configuration read, the same", 3, obey_read},
     {"special", "BUS DATA", "a special cycle on that bus, the same", 2, obey_special},
@@ -187,6 +216,8 @@ static const struct command commands[] = {
     {"io", "WHO read|write ADDRESS", "an I/O access, the same", 3, obey_io},
     {"check", "", "does anyone claim what another claims?", 0, obey_check},
     {"node", "NUMBER", "the 64 registers of a node, by its decimal number", 1, obey_node},
+    {"seat", "", "who acts, and what that seat may write", 0, obey_seat},
+    {"seat", "NUMBER", "who acts from now on, by its decimal number; seat 0 may write every register", 1, obey_seat_number},
     {"reset", "", "every register back to its reset value", 0, obey_reset},
     {"arbiter", "HIGH", "ten members share a bus: those of the high group, as 025 or none", 1, obey_arbiter},
     {"request", "MEMBERS", "who requests it now, the same: who is granted, and how the rings stand", 1, obey_request},
@@ -203,9 +234,25 @@ static void obey_help(struct chassis *c, const char *const word[])
     }
 }
 
+/* What a command takes; a name may stand in the table more than once, for other counts of words. */
+static void show_takes(const char *name, unsigned given)
+{
+    const char *before = " takes";
+    printf("%s", name);
+    for (unsigned i = 0; i < COMMANDS; i++) {
+        unsigned words = commands[i].words;
+        if (strcmp(name, commands[i].name) == 0) {
+            printf("%s %u %s%s%s", before, words, words == 1 ? "word" : "words", words == 0 ? "" : ", ", commands[i].takes);
+            before = " or";
+        }
+    }
+    printf(", and here %s %u\n", given == 1 ? "is" : "are", given);
+}
+
 /* One line of the keyboard; false ends the lesson. */
 static bool obey(struct chassis *c, const struct words *w)
 {
+    bool is_command = false;
     if (w->count == 0) {
         return true;
     }
@@ -214,10 +261,9 @@ static bool obey(struct chassis *c, const struct words *w)
         if (strcmp(w->word[0], found->name) != 0) {
             continue;
         }
+        is_command = true;
         if (w->count - 1 != found->words) {
-            printf("%s takes %u words%s%s, and here are %u\n", found->name, found->words, found->words == 0 ? "" : ", ", found->takes,
-                   w->count - 1);
-            return true;
+            continue;
         }
         if (found->obey == NULL) {
             return false;
@@ -225,13 +271,21 @@ static bool obey(struct chassis *c, const struct words *w)
         found->obey(c, &w->word[1]);
         return true;
     }
-    show_wrong(w->word[0], "command", "one of these");
-    obey_help(c, &w->word[1]);
+    if (is_command) {
+        show_takes(w->word[0], w->count - 1);
+    } else {
+        show_wrong(w->word[0], "command", "one of these");
+        obey_help(c, &w->word[1]);
+    }
     return true;
 }
 
-static bool next_words(struct words *w)
+/* The prompt says who acts, where the rack has seats at all. */
+static bool next_words(const struct chassis *c, struct words *w)
 {
+    if (has_seats(c)) {
+        printf("seat %u", c->seat);
+    }
     printf("> ");
     fflush(stdout);
     return read_words(w);
@@ -251,7 +305,7 @@ int main(int argc, char **argv)
     show_tree(&c);
     bool goes_on = true;
     while (goes_on) {
-        if (next_words(&w)) {
+        if (next_words(&c, &w)) {
             goes_on = obey(&c, &w);
         } else {
             putchar('\n');

@@ -1,5 +1,7 @@
 #include "show.h"
 
+#include "seat.h"
+
 #include <inttypes.h>
 #include <stdio.h>
 
@@ -14,7 +16,7 @@ static const char *kind_name(const struct chassis *c, unsigned node)
     }
 }
 
-static void show_name(const struct chassis *c, uint64_t node)
+void show_name(const struct chassis *c, uint64_t node)
 {
     if (node == RACK_NODE_HOST) {
         printf("the host");
@@ -75,6 +77,7 @@ static void show_node(const struct chassis *c, unsigned node, int depth)
     for (uint8_t k = 0; k < RACK_NODE_WINDOWS; k++) {
         show_window(c, node, k, 2 * depth + 4);
     }
+    show_grants(c, node, 2 * depth + 4);
 }
 
 /* The nodes on the bus of a holder, and below each bridge its own. Ends: a bridge's parent has a lower number. */
@@ -93,7 +96,7 @@ static void show_below(const struct chassis *c, unsigned holder, int depth)
 
 void show_tree(const struct chassis *c) { show_below(c, RACK_NODE_HOST, 0); }
 
-static void show_crossings(uint64_t crossings)
+void show_crossings(uint64_t crossings)
 {
     if (crossings == 0) {
         printf(" without crossing a bridge\n");
@@ -173,6 +176,9 @@ void show_answer(const struct chassis *c, const uint64_t a[RACK_ANSWER_NUMBERS])
         show_bus(a[2]);
         show_crossings(a[1]);
         break;
+    case RACK_ENDED_SEAT:
+        printf("seat %" PRIu64 " acts from now on\n", a[1]);
+        break;
     case RACK_ENDED_SILENT:
         printf("silent: the initiator may not drive its bus\n");
         break;
@@ -208,6 +214,7 @@ void show_registers(const struct chassis *c, unsigned node)
         if (at % 16 == 0) {
             printf("  %02X:", at);
         }
-        printf(" %02X%s", registers[at], at % 16 == 15 ? "\n" : "");
+        printf("%c%02X%s", is_marked(c, node, at) ? '*' : ' ', registers[at], at % 16 == 15 ? "\n" : "");
     }
+    show_legend(c, node);
 }

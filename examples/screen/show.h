@@ -6,7 +6,12 @@
 
 void show_refusal(uint8_t number);
 
-/* The rack with both ends of every window and region. */
+void show_name(const struct chassis *c, uint64_t node);
+
+/* How many bridges an access crossed; ends the line. */
+void show_crossings(uint64_t crossings);
+
+/* The rack with both ends of every window and region, and what each seat may write. */
 void show_tree(const struct chassis *c);
 
 /* How an event or the check ended. */
@@ -15,6 +20,7 @@ void show_answer(const struct chassis *c, const uint64_t answer[RACK_ANSWER_NUMB
 /* The registers that an event changed. */
 void show_changes(const struct chassis *c, const struct chassis *before);
 
+/* The 64 registers of a node; those that the acting seat may write are marked, unless it may write all. */
 void show_registers(const struct chassis *c, unsigned node);
 
 #endif

@@ -89,6 +89,7 @@ fn put_ending(answer: &mut [u64; 8], crossings: u32, e: Ending)
         ),
         Ending::Special { holder } => put_eight(answer, 12, crossed, holder as u64, 0, 0, 0, 0),
         Ending::Silent => put_eight(answer, 7, 0, 0, 0, 0, 0, 0),
+        Ending::Denied => put_eight(answer, 10, crossed, 0, 0, 0, 0, 0),
     }
 }
 
@@ -124,6 +125,7 @@ fn put_answer(answer: &mut [u64; 8], a: Answer)
     match a {
         Answer::Ended { crossings, ending } => put_ending(answer, crossings, ending),
         Answer::Checked(r) => put_report(answer, r),
+        Answer::Seated(seat) => put_eight(answer, 11, seat as u64, 0, 0, 0, 0, 0),
     }
 }
 

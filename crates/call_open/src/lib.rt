@@ -1,6 +1,7 @@
 // The open calls over a decoded rack and two lent images. None asks anything of its caller: each answers or refuses by number.
 ghost use mathlib.Core.Path.{_≡_};
 ghost use Rattle.rack.specs.definitions.Grow.{tree};
+ghost use Rattle.seat.specs.definitions.Grants.{acting, grants};
 ghost use Rattle.register_image.specs.definitions.Image.{images, result};
 ghost use Rattle.call_table.specs.definitions.Call.{refusalBy, readIn, storeRefusal, storedIn, viewIn, sizeIn, endsIn, runIn, checkIn};
 use call_table::Number;
@@ -9,6 +10,7 @@ use call_table::Reply;
 use file_record::Event;
 use rack::Rack;
 use rack::table::table_of;
+use seat::grow::grants_of;
 
 // A dword of a node's registers.
 pub fn read_register<'a>(
@@ -18,10 +20,11 @@ pub fn read_register<'a>(
     node: u8,
     register: u8,
 ) -> Number
-    ensures { λ r. ⌜ r ≡ readIn (tree rack) (images (now (bridges .entry)) (now (devices .entry))) node register ⌝ }
+    ensures { λ r. ⌜ r ≡ readIn (tree rack) (grants rack) (images (now (bridges .entry)) (now (devices .entry))) node register ⌝ }
 {
     let table = table_of(rack);
-    call_table::nodes::read_on(&table, bridges, devices, node, register)
+    let grants = grants_of(rack);
+    call_table::nodes::read_on(&table, &grants, bridges, devices, node, register)
 }
 
 // A register write of a node; the refusal's number, 0 where it is accepted.
@@ -34,18 +37,29 @@ pub fn write_register(
     enables: u8,
     put: u32,
 ) -> u8
-    ensures { λ r. ⌜ (r ≡ refusalBy (tree rack) (images (now (bridges .entry)) (now (devices .entry))) (storeRefusal (tree rack) node register enables)) × (images (now (bridges .exit)) (now (devices .exit)) ≡ storedIn (tree rack) (images (now (bridges .entry)) (now (devices .entry))) node register enables put) ⌝ }
+    ensures { λ r. ⌜ (r ≡ refusalBy (tree rack) (grants rack) (images (now (bridges .entry)) (now (devices .entry))) (storeRefusal (tree rack) node register enables) 0) × (images (now (bridges .exit)) (now (devices .exit)) ≡ storedIn (tree rack) (grants rack) (images (now (bridges .entry)) (now (devices .entry))) node register enables put) ⌝ }
 {
     let table = table_of(rack);
-    call_table::nodes::write_on(&table, bridges, devices, node, register, enables, put)
+    let grants = grants_of(rack);
+    call_table::nodes::write_on(
+        &table,
+        &grants,
+        bridges,
+        devices,
+        node,
+        register,
+        enables,
+        put,
+    )
 }
 
 // The register view: the 64 bytes of a node; an empty part where the call is refused.
 pub fn view<'a>(rack: Rack, bridges: &'a [u8], devices: &'a [u8], node: u8) -> &'a [u8]
-    ensures { λ r. ⌜ now r ≡ viewIn (tree rack) (images (now (bridges .entry)) (now (devices .entry))) node ⌝ }
+    ensures { λ r. ⌜ now r ≡ viewIn (tree rack) (grants rack) (images (now (bridges .entry)) (now (devices .entry))) node ⌝ }
 {
     let table = table_of(rack);
-    call_table::nodes::view_on(&table, bridges, devices, node)
+    let grants = grants_of(rack);
+    call_table::nodes::view_on(&table, &grants, bridges, devices, node)
 }
 
 // The size of a device's region, found by writing all ones; both images are then what they were.
@@ -56,10 +70,11 @@ pub fn size_region(
     node: u8,
     region: u8,
 ) -> Number
-    ensures { λ r. ⌜ (r ≡ sizeIn (tree rack) (images (now (bridges .entry)) (now (devices .entry))) node region) × (images (now (bridges .exit)) (now (devices .exit)) ≡ images (now (bridges .entry)) (now (devices .entry))) ⌝ }
+    ensures { λ r. ⌜ (r ≡ sizeIn (tree rack) (grants rack) (images (now (bridges .entry)) (now (devices .entry))) node region) × (images (now (bridges .exit)) (now (devices .exit)) ≡ images (now (bridges .entry)) (now (devices .entry))) ⌝ }
 {
     let table = table_of(rack);
-    call_table::nodes::size_on(&table, bridges, devices, node, region)
+    let grants = grants_of(rack);
+    call_table::nodes::size_on(&table, &grants, bridges, devices, node, region)
 }
 
 // Both ends of window k of a bridge (0 memory, 1 prefetchable, 2 I/O), or of region k of a device.
@@ -70,24 +85,27 @@ pub fn window_ends<'a>(
     node: u8,
     k: u8,
 ) -> RangeReply
-    ensures { λ r. ⌜ r ≡ endsIn (tree rack) (images (now (bridges .entry)) (now (devices .entry))) node k ⌝ }
+    ensures { λ r. ⌜ r ≡ endsIn (tree rack) (grants rack) (images (now (bridges .entry)) (now (devices .entry))) node k ⌝ }
 {
     let table = table_of(rack);
-    call_table::nodes::ends_on(&table, bridges, devices, node, k)
+    let grants = grants_of(rack);
+    call_table::nodes::ends_on(&table, &grants, bridges, devices, node, k)
 }
 
-// An event of kinds 4 to 8, the check too.
-pub fn run_event(rack: Rack, bridges: &mut [u8], devices: &mut [u8], e: Event) -> Reply
-    ensures { λ r. ⌜ result r (now (bridges .exit)) (now (devices .exit)) ≡ runIn (tree rack) (images (now (bridges .entry)) (now (devices .entry))) e ⌝ }
+// An event of kinds 4 to 8 and 10, the check too, by the acting seat.
+pub fn run_event(rack: Rack, bridges: &mut [u8], devices: &mut [u8], seat: u8, e: Event) -> Reply
+    ensures { λ r. ⌜ result r (now (bridges .exit)) (now (devices .exit)) ≡ runIn (tree rack) (acting (grants rack) seat) (images (now (bridges .entry)) (now (devices .entry))) e ⌝ }
 {
     let table = table_of(rack);
-    call_table::runs::run_on(&table, bridges, devices, e)
+    let grants = grants_of(rack);
+    call_table::runs::run_on(&table, &grants, bridges, devices, seat, e)
 }
 
 // The check of a rack, which changes no register.
 pub fn run_check<'a>(rack: Rack, bridges: &'a [u8], devices: &'a [u8]) -> Reply
-    ensures { λ r. ⌜ r ≡ checkIn (tree rack) (images (now (bridges .entry)) (now (devices .entry))) ⌝ }
+    ensures { λ r. ⌜ r ≡ checkIn (tree rack) (grants rack) (images (now (bridges .entry)) (now (devices .entry))) ⌝ }
 {
     let table = table_of(rack);
-    call_table::runs::check_on(&table, bridges, devices)
+    let grants = grants_of(rack);
+    call_table::runs::check_on(&table, &grants, bridges, devices)
 }

@@ -1,14 +1,15 @@
 -- What each call gives once its refusal is known.
 use mathlib.Core.Path.{_≡_, sym, ap, _∙_}
-use mathlib.Core.Bool.{Bool, _||_}
+use mathlib.Core.Bool.{Bool, true, false, _||_}
 use mathlib.Core.List.{List}
 use Prim.Native.Nat.{ℕ}
 use lib.Dec.{leb, ltb}
 use Rattle.rack.specs.declared.Range.{Range}
 use Rattle.rack.specs.definitions.Tree.{Tree}
 use Rattle.rack.specs.definitions.Refusal.{rackRefusal}
-use Rattle.rack.specs.definitions.First.{_when_, unless}
+use Rattle.rack.specs.definitions.First.{_when_, _or_, unless}
 use Rattle.rack.specs.laws.FirstLaws.{or-this, or-next, or-none, unless-number, unless-none}
+use Rattle.seat.specs.definitions.Grants.{Grants}
 use Rattle.register_image.specs.definitions.Image.{Images, Result, gives}
 use Rattle.register_image.specs.definitions.Fixed.{imageRefusal}
 use Rattle.register_header.specs.definitions.Register.{readRegister}
@@ -18,43 +19,55 @@ use Rattle.call_table.specs.declared.Number.the-variants as number
 use Rattle.call_table.specs.declared.RangeReply.the-variants as range-reply
 use Rattle.call_table.specs.definitions.Call.{refusalBy, ran}
 
-module _ (t : Tree) (im : Images) (own : ℕ) where
-  -- 6 to 10, then 11 and 12, then the call's own
-  pub rack-first : {r : ℕ} → r ≡ rackRefusal t → (r ≡ 0 → ⊥) → r ≡ refusalBy t im own
+module _ (t : Tree) (g : Grants) (im : Images) (field seat : ℕ) where
+  -- 6 to 10, then 11 and 12, then 13, 14 and 15
+  pub rack-first : {r : ℕ} → r ≡ rackRefusal t → (r ≡ 0 → ⊥) → r ≡ refusalBy t g im field seat
   unfolding refusalBy
   rack-first e ne = e ∙ sym (or-this _ _ (λ z. ne (e ∙ z)))
 
-  pub image-next : {r s : ℕ} → r ≡ rackRefusal t → r ≡ 0 → s ≡ imageRefusal t im → (s ≡ 0 → ⊥) → s ≡ refusalBy t im own
-  unfolding refusalBy
-  image-next er z e ne = e ∙ sym (or-next _ _ (sym er ∙ z) ∙ or-this _ _ (λ y. ne (e ∙ y)))
+  module _ {r : ℕ} (er : r ≡ rackRefusal t) (z : r ≡ 0) {s : ℕ} (es : s ≡ imageRefusal t im) where
+    pub image-next : (s ≡ 0 → ⊥) → s ≡ refusalBy t g im field seat
+    unfolding refusalBy
+    image-next ne = es ∙ sym (or-next _ _ (sym er ∙ z) ∙ or-this _ _ (λ y. ne (es ∙ y)))
 
-  pub own-last : {r s : ℕ} → r ≡ rackRefusal t → r ≡ 0 → s ≡ imageRefusal t im → s ≡ 0 → own ≡ refusalBy t im own
-  unfolding refusalBy
-  own-last er z es y = sym (or-next _ _ (sym er ∙ z) ∙ or-next _ _ (sym es ∙ y))
+    module _ (y : s ≡ 0) where
+      later : refusalBy t g im field seat ≡ field or 14 when (g .wrong) or seat
+      unfolding refusalBy
+      later = or-next _ _ (sym er ∙ z) ∙ or-next _ _ (sym es ∙ y)
+
+      pub field-next : (field ≡ 0 → ⊥) → field ≡ refusalBy t g im field seat
+      field-next ne = sym (later ∙ or-this _ _ ne)
+
+      module _ (f : field ≡ 0) {w : Bool} (ew : w ≡ g .wrong) where
+        pub grants-next : w ≡ true → 14 ≡ refusalBy t g im field seat
+        grants-next h = sym (later ∙ or-next _ _ f ∙ rw (← ew, h))
+
+        pub seat-last : w ≡ false → seat ≡ refusalBy t g im field seat
+        seat-last h = sym (later ∙ or-next _ _ f ∙ rw (← ew, h))
 
   -- an accepted call has an accepted rack
-  pub accepted-rack : {r : ℕ} → r ≡ refusalBy t im own → r ≡ 0 → rackRefusal t ≡ 0
+  pub accepted-rack : {r : ℕ} → r ≡ refusalBy t g im field seat → r ≡ 0 → rackRefusal t ≡ 0
   unfolding refusalBy
   accepted-rack e z = or-none (rackRefusal t) _ (sym e ∙ z) .0
 
--- a refused call, and an accepted one
-module _ (t : Tree) (im : Images) {A : Type 0} (own : ℕ) (given : A) (refused : ℕ → A) where
-  pub is-refused : {n r : ℕ} {a : A} → n ≡ own → r ≡ refusalBy t im n → (r ≡ 0 → ⊥) → a ≡ refused r
-      → a ≡ unless (refusalBy t im own) given refused
-  is-refused en er ne ea =
-      let e = er ∙ ap (refusalBy t im) en in ea ∙ ap refused e ∙ sym (unless-number given refused (λ z. ne (e ∙ z)))
+-- what the call hands back, from the numbers that were found
+module _ (t : Tree) (g : Grants) (im : Images) (field seat : ℕ) {n m : ℕ} (en : n ≡ field) (em : m ≡ seat) where
+  pub is-number : {r : ℕ} → r ≡ refusalBy t g im n m → r ≡ refusalBy t g im field seat
+  is-number er = er ∙ ap (λ (k : ℕ). refusalBy t g im k m) en ∙ ap (refusalBy t g im field) em
 
-  pub is-given : {n r : ℕ} {a : A} → n ≡ own → r ≡ refusalBy t im n → r ≡ 0 → a ≡ given
-      → a ≡ unless (refusalBy t im own) given refused
-  is-given en er z ea = ea ∙ sym (unless-none given refused (sym (er ∙ ap (refusalBy t im) en) ∙ z))
+  pub is-none : {r : ℕ} → r ≡ refusalBy t g im n m → r ≡ 0 → 0 ≡ refusalBy t g im field seat
+  is-none er z = sym (sym (is-number er) ∙ z)
 
--- what the call hands back
-module _ (t : Tree) (im : Images) (own : ℕ) where
-  pub is-number : {n r : ℕ} → n ≡ own → r ≡ refusalBy t im n → r ≡ refusalBy t im own
-  is-number en er = er ∙ ap (refusalBy t im) en
+  -- a refused call, and an accepted one
+  module _ {A : Type 0} (given : A) (refused : ℕ → A) where
+    pub is-refused : {r : ℕ} {a : A} → r ≡ refusalBy t g im n m → (r ≡ 0 → ⊥) → a ≡ refused r
+        → a ≡ unless (refusalBy t g im field seat) given refused
+    is-refused er ne ea =
+        let e = is-number er in ea ∙ ap refused e ∙ sym (unless-number given refused (λ z. ne (e ∙ z)))
 
-  pub is-none : {n r : ℕ} → n ≡ own → r ≡ refusalBy t im n → r ≡ 0 → 0 ≡ refusalBy t im own
-  is-none en er z = sym (sym (is-number en er) ∙ z)
+    pub is-given : {r : ℕ} {a : A} → r ≡ refusalBy t g im n m → r ≡ 0 → a ≡ given
+        → a ≡ unless (refusalBy t g im field seat) given refused
+    is-given er z ea = ea ∙ sym (unless-none given refused (sym (is-number er) ∙ z))
 
 pub read-of : (register : ℕ) {part l : List ℕ} {v : ℕ} → part ≡ l → v ≡ readRegister part register
     → number.Value v ≡ number.Value (readRegister l register)
@@ -80,3 +93,11 @@ missing-bridge i r e f q = rw (← e, ← f) q
 
 pub wrong-is : {b d : Bool} {n : ℕ} → b ≡ d → n ≡ 13 when b → n ≡ 13 when d
 wrong-is e q = rw (← e) q
+
+-- 15 of the seat that acts, or of one that the event names
+module _ {told named x y : Bool} (et : told ≡ x) (en : named ≡ y) where
+  pub unknown-seat : told || named ≡ true → 15 ≡ 15 when (x || y)
+  unknown-seat h = rw (← et, ← en, h)
+
+  pub known-seats : told || named ≡ false → 0 ≡ 15 when (x || y)
+  known-seats h = rw (← et, ← en, h)

@@ -1,18 +1,31 @@
-// Refusals 6 to 13 of a call, in their order.
+// Refusals 6 to 15 of a call, in their order.
 ghost use mathlib.Core.Path.{_≡_};
 ghost use Rattle.rack.specs.definitions.First.{_when_};
 ghost use Rattle.rack.specs.definitions.Table.{treeOf};
+ghost use Rattle.seat.specs.definitions.Grants.{acting};
+ghost use Rattle.seat.specs.definitions.Table.{grantsOf};
 ghost use Rattle.register_image.specs.definitions.Image.{images};
-ghost use Rattle.call_table.specs.definitions.Call.{refusalBy, readRefusal, storeRefusal, viewRefusal, regionRefusal, windowRefusal, eventRefusal};
+ghost use Rattle.call_table.specs.definitions.Call.{refusalBy, readRefusal, storeRefusal, viewRefusal, regionRefusal, windowRefusal, eventRefusal, seatRefusal};
 use file_record::Event;
+use file_record::events::event_unknown;
 use file_record::events::event_wrong;
 use rack::table::Table;
 use rack::table::count_of;
 use rack::table::is_bridge_at;
+use seat::table::GrantTable;
+use seat::table::is_wrong;
+use seat::table::unknown_seat;
 
-// The refusal of a call, 0 where it is accepted; `own` is the number of what it is given itself.
-pub fn refusal_by<'a>(table: &Table, bridges: &'a [u8], devices: &'a [u8], own: u8) -> u8
-    ensures { λ r. ⌜ r ≡ refusalBy (treeOf (now (table .entry))) (images (now (bridges .entry)) (now (devices .entry))) own ⌝ }
+// The refusal of a call, 0 where it is accepted; `field` is 13 or 0 by what it is given, `seat` 15 or 0 by who acts.
+pub fn refusal_by<'a>(
+    table: &Table,
+    grants: &GrantTable,
+    bridges: &'a [u8],
+    devices: &'a [u8],
+    field: u8,
+    seat: u8,
+) -> u8
+    ensures { λ r. ⌜ r ≡ refusalBy (treeOf (now (table .entry))) (grantsOf (now (grants .entry))) (images (now (bridges .entry)) (now (devices .entry))) field seat ⌝ }
 {
     let tree = rack_refusals::refusal_of(table);
     if tree != 0 {
@@ -22,7 +35,14 @@ pub fn refusal_by<'a>(table: &Table, bridges: &'a [u8], devices: &'a [u8], own: 
     if image != 0 {
         return image;
     }
-    own
+    let wrong = is_wrong(grants);
+    if field != 0 {
+        return field;
+    }
+    if wrong {
+        return 14;
+    }
+    seat
 }
 
 // 13 of a field.
@@ -78,4 +98,13 @@ pub(crate) fn event_refusal(table: &Table, e: Event) -> u8
     ensures { λ r. ⌜ r ≡ eventRefusal (treeOf (now (table .entry))) e ⌝ }
 {
     field_refusal(event_wrong(table, e))
+}
+
+// 15 of the seat that acts, and of one that the event names.
+pub(crate) fn seat_refusal(grants: &GrantTable, seat: u8, e: Event) -> u8
+    ensures { λ r. ⌜ r ≡ seatRefusal (acting (grantsOf (now (grants .entry))) seat) e ⌝ }
+{
+    let told = unknown_seat(grants, seat);
+    let named = event_unknown(grants, e);
+    if told | named { 15 } else { 0 }
 }

@@ -63,7 +63,7 @@ pub fn make(
     if a.operation == 6 {
         return put_reply(
             answer,
-            run_event(rack, bridges, devices, event_in(event, 0)),
+            run_event(rack, bridges, devices, a.node, event_in(event, 0)),
         );
     }
     if a.operation == 7 {

@@ -17,11 +17,11 @@ fn image() -> [u8; 4160]
     [0; 4160]
 }
 
-// A decoded rack: always 1,265 bytes.
-fn rack_bytes() -> [u8; 1265]
-    ensures { λ r. ⌜ 1265 ≡ length r ⌝ }
+// A decoded rack: always 5,585 bytes.
+fn rack_bytes() -> [u8; 5585]
+    ensures { λ r. ⌜ 5585 ≡ length r ⌝ }
 {
-    [0; 1265]
+    [0; 5585]
 }
 
 // The next n bytes of the script; false where it ends before, or there is no room for them.

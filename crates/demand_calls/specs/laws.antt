@@ -12,3 +12,5 @@ pub mod CChecking
 pub mod CGoing
 pub mod CSpecial
 pub mod CLater
+pub mod Seats
+pub mod CSeats

@@ -16,10 +16,13 @@ pub enum Ending {
     Clash { holder: u8, first: u8, second: u8 },
     Special { holder: u8 },
     Silent,
+    Denied,
 }
 
-// The answer to an event: how an access ended and the bridges that took it across, or what a check says.
+// The answer to an event: how an access ended and the bridges that took it across, what a check says, or who acts from
+// now on.
 pub enum Answer {
     Ended { crossings: u32, ending: Ending },
     Checked(Report),
+    Seated(u8),
 }

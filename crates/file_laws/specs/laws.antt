@@ -1,2 +1,4 @@
 pub mod Refused
+pub mod Seats
 pub mod Events
+pub mod Running

@@ -4,17 +4,20 @@ ghost use mathlib.Core.Bool.{true, false};
 ghost use Prim.Native.Nat.{_+_, _≤_, _<_};
 ghost use lib.ListN.{length};
 ghost use Rattle.rack.specs.definitions.Table.{treeOf};
-ghost use Rattle.rack.specs.definitions.First.{_or_};
+ghost use Rattle.rack.specs.definitions.First.{_when_, _or_};
 ghost use Rattle.rack.specs.definitions.Grow.{grown};
 ghost use Rattle.rack.specs.definitions.Refusal.{rackRefusal};
+ghost use Rattle.seat.specs.definitions.Grants.{seated};
+ghost use Rattle.seat.specs.definitions.Table.{grantsOf};
 ghost use Rattle.file_record.specs.definitions.Number.{byteIn};
-ghost use Rattle.file_record.specs.definitions.Record.{sizeOf, classIn, isA, isKnown, nodeIn};
-ghost use Rattle.file_record.specs.definitions.Load.{hostWrong, followsEvent, shapeFault, nodeFault, fieldFault, recordFault, taken, atStart, readFrom, readIn, fileIn, rackAlone};
+ghost use Rattle.file_record.specs.definitions.Record.{sizeOf, classIn, isA, nodeIn, seatIn};
+ghost use Rattle.file_record.specs.definitions.Load.{hostWrong, followsEvent, shapeFault, nodeFault, seatFault, eventFault, recordFault, taken, atStart, readFrom, readIn, fileIn, rackAlone};
 ghost use Rattle.file_record.specs.definitions.Loads.{readingOf, Steps, Loads};
 use file_record::Class;
 use file_record::Loaded;
 use file_record::Walk;
 use file_record::events::event_in;
+use file_record::events::event_unknown;
 use file_record::events::event_wrong;
 use file_record::record::class_in;
 use file_record::record::cut_short;
@@ -23,6 +26,7 @@ use file_record::record::is_a;
 use file_record::record::is_rack;
 use file_record::record::no_kind;
 use file_record::record::node_in;
+use file_record::record::seat_in;
 use file_record::record::size_of;
 use rack::Range;
 use rack::grow::add_node;
@@ -31,6 +35,11 @@ use rack::table::Table;
 use rack::table::count_of;
 use rack_refusals::node_refusal;
 use register_header::register::byte_at;
+use seat::grow::add_grant;
+use seat::grow::no_grants;
+use seat::grow::note_wrong;
+use seat::grow::seat_wrong;
+use seat::table::GrantTable;
 
 // Refusal 4: the first record is no host, or a later one is.
 fn host_wrong(c: Class, o: usize) -> bool
@@ -48,12 +57,12 @@ fn follows_event(c: Class, events: usize) -> bool
     rack & !(events == 0)
 }
 
-// Refusals 2 to 5, of a record's kind, length and place; `known` says whether events may be read.
-fn shape_fault(file: &[u8], known: bool, c: Class, o: usize, events: usize) -> u8
+// Refusals 2 to 5, of a record's kind, length and place; `whole` says whether this is a whole file, with events.
+fn shape_fault(file: &[u8], whole: bool, c: Class, o: usize, events: usize) -> u8
     requires { ⌜ o ≤ 65536 ⌝ }
-    ensures { λ r. ⌜ r ≡ shapeFault (isKnown known) (now (file .entry)) c o events ⌝ }
+    ensures { λ r. ⌜ r ≡ shapeFault whole (now (file .entry)) c o events ⌝ }
 {
-    if no_kind(known, c) {
+    if no_kind(whole, c) {
         return 2;
     }
     if cut_short(file, o) {
@@ -101,12 +110,46 @@ fn stopped(refusal: u8) -> Walk
     }
 }
 
-fn past_node(file: &[u8], table: &mut Table, w: Walk) -> Walk
+fn past_node(file: &[u8], table: &mut Table, grants: &GrantTable, w: Walk) -> Walk
     requires { ⌜ (w .offset ≤ 65536) × (isA Class.Node (classIn (now file) (w .offset)) ≡ true) × (rackRefusal (treeOf (now table)) ≡ 0) ⌝ }
-    ensures { λ r. ⌜ Steps r (now (table .exit)) (nodeFault (now (file .entry)) (w .offset) (treeOf (now (table .entry)))) (taken (now (file .entry)) (readingOf w (now (table .entry)))) ⌝ }
+    ensures { λ r. ⌜ Steps r (now (table .exit)) (now (grants .entry)) (nodeFault (now (file .entry)) (w .offset) (treeOf (now (table .entry)))) (taken (now (file .entry)) (readingOf w (now (table .entry)) (now (grants .entry)))) ⌝ }
 {
     let offset = past(file, w.offset);
     let fault = take_node(file, w.offset, table);
+    if fault != 0 {
+        return stopped(fault);
+    }
+    Walk {
+        refusal: 0,
+        offset,
+        events: w.events,
+    }
+}
+
+// 14 of the seat record at an offset, which stops a whole file; elsewhere it is noted. 0 where nothing stops, and then the record is in.
+fn take_seat(file: &[u8], whole: bool, o: usize, table: &Table, grants: &mut GrantTable) -> u8
+    requires { ⌜ (o ≤ 65536) × (rackRefusal (treeOf (now table)) ≡ 0) ⌝ }
+    ensures { λ r. ⌜ (r ≡ seatFault (now (file .entry)) o (treeOf (now (table .entry))) (grantsOf (now (grants .entry))) when whole) × (r ≡ 0 → grantsOf (now (grants .exit)) ≡ seated (treeOf (now (table .entry)) .count) (grantsOf (now (grants .entry))) (seatIn (now (file .entry)) o)) ⌝ }
+{
+    let count = count_of(table);
+    let r = seat_in(file, o);
+    if seat_wrong(grants, count, r) {
+        if whole {
+            return 14;
+        }
+        note_wrong(grants);
+        return 0;
+    }
+    add_grant(grants, count, r);
+    0
+}
+
+fn past_seat(file: &[u8], whole: bool, table: &Table, grants: &mut GrantTable, w: Walk) -> Walk
+    requires { ⌜ (w .offset ≤ 65536) × (isA Class.Seat (classIn (now file) (w .offset)) ≡ true) × (rackRefusal (treeOf (now table)) ≡ 0) ⌝ }
+    ensures { λ r. ⌜ Steps r (now (table .entry)) (now (grants .exit)) (seatFault (now (file .entry)) (w .offset) (treeOf (now (table .entry))) (grantsOf (now (grants .entry))) when whole) (taken (now (file .entry)) (readingOf w (now (table .entry)) (now (grants .entry)))) ⌝ }
+{
+    let offset = past(file, w.offset);
+    let fault = take_seat(file, whole, w.offset, table, grants);
     if fault != 0 {
         return stopped(fault);
     }
@@ -124,12 +167,16 @@ fn begin(events: usize, o: usize) -> usize
     if events == 0 { o } else { events }
 }
 
-fn past_event(file: &[u8], table: &Table, w: Walk) -> Walk
+fn past_event(file: &[u8], table: &Table, grants: &GrantTable, w: Walk) -> Walk
     requires { ⌜ (w .offset ≤ 65536) × (isA Class.Event (classIn (now file) (w .offset)) ≡ true) ⌝ }
-    ensures { λ r. ⌜ Steps r (now (table .entry)) (fieldFault (now (file .entry)) (w .offset) (treeOf (now (table .entry)))) (taken (now (file .entry)) (readingOf w (now (table .entry)))) ⌝ }
+    ensures { λ r. ⌜ Steps r (now (table .entry)) (now (grants .entry)) (eventFault (now (file .entry)) (w .offset) (treeOf (now (table .entry))) (grantsOf (now (grants .entry)))) (taken (now (file .entry)) (readingOf w (now (table .entry)) (now (grants .entry)))) ⌝ }
 {
-    if event_wrong(table, event_in(file, w.offset)) {
+    let e = event_in(file, w.offset);
+    if event_wrong(table, e) {
         return stopped(13);
+    }
+    if event_unknown(grants, e) {
+        return stopped(15);
     }
     Walk {
         refusal: 0,
@@ -138,9 +185,9 @@ fn past_event(file: &[u8], table: &Table, w: Walk) -> Walk
     }
 }
 
-fn past_host(file: &[u8], table: &mut Table, w: Walk) -> Walk
+fn past_host(file: &[u8], table: &mut Table, grants: &GrantTable, w: Walk) -> Walk
     requires { ⌜ (w .offset ≤ 65536) × (isA Class.Host (classIn (now file) (w .offset)) ≡ true) ⌝ }
-    ensures { λ r. ⌜ Steps r (now (table .exit)) 0 (taken (now (file .entry)) (readingOf w (now (table .entry)))) ⌝ }
+    ensures { λ r. ⌜ Steps r (now (table .exit)) (now (grants .entry)) 0 (taken (now (file .entry)) (readingOf w (now (table .entry)) (now (grants .entry)))) ⌝ }
 {
     *table = no_table(host_in(file, w.offset));
     Walk {
@@ -151,22 +198,25 @@ fn past_host(file: &[u8], table: &mut Table, w: Walk) -> Walk
 }
 
 // The fault of the record in front of which a walk stands; 0 where there is none, and then the walk stands after it.
-fn step(file: &[u8], known: bool, table: &mut Table, w: Walk) -> Walk
+fn step(file: &[u8], whole: bool, table: &mut Table, grants: &mut GrantTable, w: Walk) -> Walk
     requires { ⌜ (w .offset ≤ 65536) × (rackRefusal (treeOf (now table)) ≡ 0) ⌝ }
-    ensures { λ r. ⌜ Steps r (now (table .exit)) (recordFault (isKnown known) (now (file .entry)) (readingOf w (now (table .entry)))) (taken (now (file .entry)) (readingOf w (now (table .entry)))) ⌝ }
+    ensures { λ r. ⌜ Steps r (now (table .exit)) (now (grants .exit)) (recordFault whole (now (file .entry)) (readingOf w (now (table .entry)) (now (grants .entry)))) (taken (now (file .entry)) (readingOf w (now (table .entry)) (now (grants .entry)))) ⌝ }
 {
     let class = class_in(file, w.offset);
-    let fault = shape_fault(file, known, class, w.offset, w.events);
+    let fault = shape_fault(file, whole, class, w.offset, w.events);
     if fault != 0 {
         return stopped(fault);
     }
     if is_a(Class::Node, class) {
-        return past_node(file, table, w);
+        return past_node(file, table, grants, w);
     }
     if is_a(Class::Event, class) {
-        return past_event(file, table, w);
+        return past_event(file, table, grants, w);
     }
-    past_host(file, table, w)
+    if is_a(Class::Seat, class) {
+        return past_seat(file, whole, table, grants, w);
+    }
+    past_host(file, table, grants, w)
 }
 
 // In front of the first record.
@@ -188,18 +238,20 @@ fn refused_at(refusal: u8, offset: usize) -> Loaded
         refusal,
         offset,
         table: [0u64; 195],
+        grants: [0u32; 1441],
     }
 }
 
 // Record by record, up to the first faulty one.
-fn read(file: &[u8], known: bool) -> Loaded
+fn read(file: &[u8], whole: bool) -> Loaded
     requires { ⌜ length (now file) ≤ 65536 ⌝ }
-    ensures { λ r. ⌜ Loads r (readFrom (length (now (file .entry))) (isKnown known) (now (file .entry)) atStart) ⌝ }
+    ensures { λ r. ⌜ Loads r (readFrom (length (now (file .entry))) whole (now (file .entry)) atStart) ⌝ }
 {
     let mut table = no_table(Range { first: 1, last: 0 });
+    let mut grants = no_grants();
     let mut w = start();
     while w.offset < file.len() {
-        let next = step(file, known, &mut table, w);
+        let next = step(file, whole, &mut table, &mut grants, w);
         if next.refusal != 0 {
             return refused_at(next.refusal, w.offset);
         }
@@ -209,11 +261,12 @@ fn read(file: &[u8], known: bool) -> Loaded
         refusal: 0,
         offset: begin(w.events, w.offset),
         table,
+        grants,
     }
 }
 
-fn load(file: &[u8], known: bool) -> Loaded
-    ensures { λ r. ⌜ Loads r (readIn (isKnown known) (now (file .entry))) ⌝ }
+fn load(file: &[u8], whole: bool) -> Loaded
+    ensures { λ r. ⌜ Loads r (readIn whole (now (file .entry))) ⌝ }
 {
     if 65536 < file.len() {
         return refused_at(1, 65536);
@@ -221,7 +274,7 @@ fn load(file: &[u8], known: bool) -> Loaded
     if file.len() == 0 {
         return refused_at(4, 0);
     }
-    read(file, known)
+    read(file, whole)
 }
 
 // A whole file.
@@ -231,7 +284,7 @@ pub fn load_file(file: &[u8]) -> Loaded
     load(file, true)
 }
 
-// The rack bytes of a C call: an event kind is 2.
+// The rack bytes of a C call: an event kind is 2, and a faulty seat record does not stop the reading.
 pub fn load_alone(file: &[u8]) -> Loaded
     ensures { λ r. ⌜ Loads r (rackAlone (now (file .entry))) ⌝ }
 {

@@ -8,7 +8,7 @@ use Rattle.rack.specs.declared.Kind.{Kind}
 use Rattle.rack.specs.declared.Region.{Region}
 use Rattle.rack.specs.declared.Node.{Node}
 use Rattle.rack.specs.definitions.Node.{kindFrom, isBridge, noRegion}
-use Rattle.file_record.specs.declared.Event.the-variants.{Write, Read, Memory, Io, Check}
+use Rattle.file_record.specs.declared.Event.the-variants.{Write, Read, Memory, Io, Check, Seat}
 use Rattle.file_record.specs.definitions.Number.{byteIn, wordIn, dwordIn, qwordIn}
 use Rattle.file_record.specs.definitions.Record.{regionFrom, nodeIn}
 use Rattle.file_record.specs.definitions.Events.{eventIn}
@@ -48,6 +48,12 @@ module _ (b : List ℕ) (o : ℕ) {kind : ℕ} (ek : kind ≡ byteIn b o) where
     unfolding eventIn
     io-in w r m e ea = rw (← ek, ne-eqb kind 4 w, ne-eqb kind 5 r, ne-eqb kind 6 m, eq-eqb kind 7 e, ex, ey, ea)
 
-  pub check-in : (kind ≡ 4 → ⊥) → (kind ≡ 5 → ⊥) → (kind ≡ 6 → ⊥) → (kind ≡ 7 → ⊥) → Check ≡ eventIn b o
+  pub seat-in : {x : ℕ} → x ≡ byteIn b (o + 1) → (kind ≡ 4 → ⊥) → (kind ≡ 5 → ⊥) → (kind ≡ 6 → ⊥) → (kind ≡ 7 → ⊥) → kind ≡ 10
+      → Seat x ≡ eventIn b o
   unfolding eventIn
-  check-in w r m i = rw (← ek, ne-eqb kind 4 w, ne-eqb kind 5 r, ne-eqb kind 6 m, ne-eqb kind 7 i)
+  seat-in ex w r m i e =
+      rw (← ek, ne-eqb kind 4 w, ne-eqb kind 5 r, ne-eqb kind 6 m, ne-eqb kind 7 i, eq-eqb kind 10 e, ex)
+
+  pub check-in : (kind ≡ 4 → ⊥) → (kind ≡ 5 → ⊥) → (kind ≡ 6 → ⊥) → (kind ≡ 7 → ⊥) → (kind ≡ 10 → ⊥) → Check ≡ eventIn b o
+  unfolding eventIn
+  check-in w r m i s = rw (← ek, ne-eqb kind 4 w, ne-eqb kind 5 r, ne-eqb kind 6 m, ne-eqb kind 7 i, ne-eqb kind 10 s)

@@ -1,13 +1,14 @@
-// An event from its record, and refusal 13.
+// An event from its record, who acts after it, and refusals 13 and 15.
 ghost use mathlib.Core.Path.{_≡_};
 ghost use Prim.Native.Nat.{_≤_};
 ghost use mathlib.Core.Bool.{not};
 ghost use lib.Dec.{eqb};
 ghost use lib.ListN.{length};
 ghost use Rattle.rack.specs.definitions.Table.{treeOf};
+ghost use Rattle.seat.specs.definitions.Table.{grantsOf};
 ghost use Rattle.file_record.specs.definitions.Number.{byteIn};
 ghost use Rattle.file_record.specs.definitions.Record.{sizeOf, classIn, isA};
-ghost use Rattle.file_record.specs.definitions.Events.{eventIn, initiates, registerWrong, writeWrong, accessWrong, eventWrong, eventBytes};
+ghost use Rattle.file_record.specs.definitions.Events.{eventIn, initiates, registerWrong, writeWrong, accessWrong, eventWrong, seatAfter, eventUnknown, eventBytes};
 use crate::Class;
 use crate::Event;
 use crate::number::dword_in;
@@ -19,6 +20,8 @@ use rack::table::Table;
 use rack::table::count_of;
 use rack::table::is_bridge_at;
 use register_header::register::byte_at;
+use seat::table::GrantTable;
+use seat::table::unknown_seat;
 
 // The event whose record stands at an offset.
 pub fn event_in(file: &[u8], o: usize) -> Event
@@ -58,6 +61,9 @@ pub fn event_in(file: &[u8], o: usize) -> Event
             direction: b,
             address: dword_in(file, o + 3),
         };
+    }
+    if kind == 10 {
+        return Event::Seat { seat: a };
     }
     Event::Check
 }
@@ -118,7 +124,47 @@ pub fn event_wrong(table: &Table, e: Event) -> bool
             address,
         } => access_wrong(table, initiator, direction),
         Event::Check => false,
+        Event::Seat { seat } => false,
     }
+}
+
+// Who acts after an event.
+pub fn seat_after(seat: u8, e: Event) -> u8
+    ensures { λ r. ⌜ r ≡ seatAfter seat e ⌝ }
+{
+    match e {
+        Event::Write {
+            bus,
+            devfn,
+            register,
+            enables,
+            put,
+        } => seat,
+        Event::Read {
+            bus,
+            devfn,
+            register,
+        } => seat,
+        Event::Memory {
+            initiator,
+            direction,
+            address,
+        } => seat,
+        Event::Io {
+            initiator,
+            direction,
+            address,
+        } => seat,
+        Event::Check => seat,
+        Event::Seat { seat: next } => next,
+    }
+}
+
+// Refusal 15, of an event.
+pub fn event_unknown(grants: &GrantTable, e: Event) -> bool
+    ensures { λ r. ⌜ r ≡ eventUnknown (grantsOf (now (grants .entry))) e ⌝ }
+{
+    unknown_seat(grants, seat_after(0, e))
 }
 
 fn no_event(bytes: &[u8]) -> bool

@@ -1,6 +1,7 @@
 // Rack files: records from bytes, and events one at a time. `file_load` walks a file up to its first faulty record.
 
 use rack::table::Table;
+use seat::table::GrantTable;
 
 pub mod events;
 pub mod number;
@@ -31,6 +32,9 @@ pub enum Event {
         address: u32,
     },
     Check,
+    Seat {
+        seat: u8,
+    },
 }
 
 // What the records of a kind are. Unknown comes first: the library reads an element past an array's end as the first variant.
@@ -38,10 +42,11 @@ pub enum Class {
     Unknown,
     Host,
     Node,
+    Seat,
     Event,
 }
 
-// What is known in front of a record, beside the table of the rack: the record's offset and where the events begin (0 before the
+// What is known in front of a record, beside the tables of the rack and of its grants: the record's offset and where the events begin (0 before the
 // first). Or the refusal of the record before it, which is not 0.
 pub struct Walk {
     pub refusal: u8,
@@ -49,9 +54,11 @@ pub struct Walk {
     pub events: usize,
 }
 
-// What was read: a refusal and its offset; or 0, the offset at which the events begin and the table of the rack.
+// What was read: a refusal and its offset; or 0, the offset at which the events begin, the table of the rack and that of its
+// grants.
 pub struct Loaded {
     pub refusal: u8,
     pub offset: usize,
     pub table: Table,
+    pub grants: GrantTable,
 }

@@ -2,7 +2,7 @@
 ghost use mathlib.Core.Path.{_≡_};
 ghost use mathlib.Core.Bool.{not};
 ghost use Prim.Native.Nat.{_≤_, _<_};
-ghost use Rattle.file_record.specs.definitions.Record.{formOf, sizeOf, classIn, classNumber, isA, isRack, isKnown, cutShort, hostIn, regionFrom, nodeIn};
+ghost use Rattle.file_record.specs.definitions.Record.{formOf, sizeOf, classIn, classNumber, isA, isRack, isKnown, cutShort, hostIn, regionFrom, nodeIn, seatIn};
 use crate::Class;
 use crate::number::qword_in;
 use crate::number::word_in;
@@ -10,6 +10,7 @@ use rack::Node;
 use rack::Range;
 use rack::Region;
 use register_header::register::byte_at;
+use seat::SeatRecord;
 
 // The class of each kind, and the length of its body.
 const CLASSES: [Class; 14] = [
@@ -22,14 +23,14 @@ const CLASSES: [Class; 14] = [
     Class::Event,
     Class::Event,
     Class::Event,
-    Class::Unknown,
-    Class::Unknown,
+    Class::Seat,
+    Class::Event,
     Class::Unknown,
     Class::Unknown,
     Class::Node,
 ];
 
-const BODIES: [u8; 14] = [0, 16, 6, 12, 8, 3, 10, 6, 0, 0, 0, 0, 0, 6];
+const BODIES: [u8; 14] = [0, 16, 6, 12, 8, 3, 10, 6, 0, 4, 1, 0, 0, 6];
 
 fn class_of(kind: u8) -> Class
     ensures { λ r. ⌜ r ≡ formOf kind .class ⌝ }
@@ -65,7 +66,8 @@ fn class_number(c: Class) -> u8
         Class::Unknown => 0,
         Class::Host => 1,
         Class::Node => 2,
-        Class::Event => 3,
+        Class::Seat => 3,
+        Class::Event => 4,
     }
 }
 
@@ -79,16 +81,17 @@ pub fn is_rack(c: Class) -> bool
     ensures { λ r. ⌜ r ≡ isRack c ⌝ }
 {
     let host = is_a(Class::Host, c);
-    host | is_a(Class::Node, c)
+    let node = is_a(Class::Node, c);
+    host | node | is_a(Class::Seat, c)
 }
 
-// Refusal 2: the kind is none that may be read; `events` says whether events are.
-pub fn no_kind(events: bool, c: Class) -> bool
-    ensures { λ r. ⌜ r ≡ not (isKnown events c) ⌝ }
+// Refusal 2: the kind is none that may be read; `whole` says whether events are.
+pub fn no_kind(whole: bool, c: Class) -> bool
+    ensures { λ r. ⌜ r ≡ not (isKnown whole c) ⌝ }
 {
     let rack = is_rack(c);
     let event = is_a(Class::Event, c);
-    !(rack | (events & event))
+    !(rack | (whole & event))
 }
 
 // Refusal 3: the body is cut short.
@@ -153,5 +156,16 @@ pub fn node_in(file: &[u8], o: usize) -> Node
         vendor_id,
         device_id,
         regions: [r, s, t],
+    }
+}
+
+pub fn seat_in(file: &[u8], o: usize) -> SeatRecord
+    requires { ⌜ o ≤ 65536 ⌝ }
+    ensures { λ r. ⌜ r ≡ seatIn (now (file .entry)) o ⌝ }
+{
+    SeatRecord {
+        seat: byte_at(file, o + 1),
+        node: byte_at(file, o + 2),
+        mask: word_in(file, o + 3),
     }
 }

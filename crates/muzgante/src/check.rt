@@ -20,6 +20,7 @@ pub extern "C" fn rack_check<'a>(
     if l.refusal != 0 {
         return refuse(answer, l.refusal);
     }
-    let r = call_table::runs::check_on(&l.table, bridges, devices);
+    let grants = l.grants;
+    let r = call_table::runs::check_on(&l.table, &grants, bridges, devices);
     put_reply(answer, r)
 }

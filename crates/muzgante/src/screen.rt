@@ -19,6 +19,9 @@ pub extern "C" fn rack_reset(rack: &[u8], bridges: &mut [u8], devices: &mut [u8]
     if register_image::fixed::lengths_wrong(&l.table, bridges, devices) {
         return 11;
     }
+    if seat::table::is_wrong(&l.grants) {
+        return 14;
+    }
     register_image::reset::reset_images(&l.table, bridges, devices);
     0
 }
@@ -40,6 +43,7 @@ pub extern "C" fn rack_window<'a>(
     if l.refusal != 0 {
         return refuse(answer, l.refusal);
     }
-    let e = call_table::nodes::ends_on(&l.table, bridges, devices, node, k);
+    let grants = l.grants;
+    let e = call_table::nodes::ends_on(&l.table, &grants, bridges, devices, node, k);
     put_ends(answer, e)
 }

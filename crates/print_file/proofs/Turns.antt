@@ -7,6 +7,7 @@ use native.Mathlib.Omega.{arith}
 use lib.ListN.{length, take, drop, length-append, length-drop, take-append-drop}
 use lib.Seq.{length-take-le, take-at, drop-at, drop-drop}
 use Rattle.rack.specs.definitions.Tree.{Tree}
+use Rattle.seat.specs.definitions.Grants.{Grants}
 use Rattle.register_image.specs.definitions.Image.{Images}
 use Rattle.file_record.specs.definitions.Number.{byteIn}
 use Rattle.file_record.specs.definitions.Record.{sizeOf}
@@ -52,22 +53,20 @@ module _ (b out : List ℕ) (len : ℕ) (next : Cursor) (e : ends b (length out 
   pub turn-fits : {n : ℕ} → n ≤ 96 → len + n ≤ length out
   turn-fits h = omega (arith, on b (length out - len) next e .1)
 
-  pub turn-past : {size : ℕ} → length b ≤ 65536 → size ≤ 17 → next .offset + size < 18446744073709551616
-  turn-past h s = omega (arith, turn-inside h)
-
-  pub turn-less : {size : ℕ} → 1 ≤ size → length b - (next .offset + size) < length b - next .offset
-  turn-less s = omega (arith, on b (length out - len) next e .0)
+  pub turn-less : {to : Cursor} → to ≡ past b next → length b - to .offset < length b - next .offset
+  turn-less p =
+      omega (arith, on b (length out - len) next e .0, ap (λ (k : Cursor). k .offset) p, size-least (byteIn b (next .offset)))
 
 -- the part from the cursor `at` on is the text so far and what is left to print from `next` on, and `left` lines are enough to reach
 -- the file's end
-module _ (t : Tree) (b old : List ℕ) (at : Cursor) (im₀ : Images) where
+module _ (t : Tree) (g : Grants) (b old : List ℕ) (at : Cursor) (im₀ : Images) where
   pub record FillLeft (out : List ℕ) (next : Cursor) (len : ℕ) (im : Images) : Type 0 where
     pub left : ℕ
     pub enough : length b ≤ next .offset + left
     pub counted : next .number ≤ next .offset + 1
     pub long : length out ≡ length old
     pub inside : len ≤ length old
-    pub same : partOf t b (length old) at im₀ ≡ behind (take len out) (partUpTo left t b (length old - len) next im)
+    pub same : partOf t g b (length old) at im₀ ≡ behind (take len out) (partUpTo left t g b (length old - len) next im)
     pub rest : drop len out ≡ drop len old
 
   pub fill-all : at .number ≤ at .offset + 1 → FillLeft old at 0 im₀
@@ -79,16 +78,16 @@ module _ (t : Tree) (b old : List ℕ) (at : Cursor) (im₀ : Images) where
         counted = n;
         long = refl;
         inside = omega arith;
-        same = ap (λ (room : ℕ). partUpTo (length b) t b room at im₀) all;
+        same = ap (λ (room : ℕ). partUpTo (length b) t g b room at im₀) all;
         rest = refl;
       }
 
   module _ {out : List ℕ} {next : Cursor} {len : ℕ} {im : Images} where
     pub fill-end : FillLeft out next len im → ends b (length out - len) next ≡ true
-        → Fills (record { len = len; next = next }) old out im (partOf t b (length old) at im₀)
+        → Fills (record { len = len; next = next }) old out im (partOf t g b (length old) at im₀)
     fill-end f e =
-        let same = f .same ∙ ap (behind (take len out)) (part-stop t b (f .left) (length old - len) next im (rw (f .long) at e)) in
-        let text : partOf t b (length old) at im₀ .text ≡ take len out = ap (λ (p : Part). p .text) same ∙ append-nil (take len out) in
+        let same = f .same ∙ ap (behind (take len out)) (part-stop t g b (f .left) (length old - len) next im (rw (f .long) at e)) in
+        let text : partOf t g b (length old) at im₀ .text ≡ take len out = ap (λ (p : Part). p .text) same ∙ append-nil (take len out) in
         let long : length (take len out) ≡ len = length-take-le len out (omega (arith, f .long, f .inside)) in
         record {
           out = rw (text, long, ← f .rest) (sym (take-append-drop len out));
@@ -101,10 +100,6 @@ module _ (t : Tree) (b old : List ℕ) (at : Cursor) (im₀ : Images) where
         → length old * 1 < 9223372036854775808 → len + n < 18446744073709551616
     fill-word f e h r = omega (arith, f .long, turn-fits b out len next e h)
 
-    pub fill-number : FillLeft out next len im → ends b (length out - len) next ≡ false → length b ≤ 65536
-        → next .number + 1 < 4294967296
-    fill-number f e h = omega (arith, f .counted, turn-inside b out len next e h)
-
     -- what the next call needs
     pub fill-onward : FillLeft out next len im → ends b (length out - len) next ≡ true
         → Onward b (length old) at (record { len = len; next = next })
@@ -113,14 +108,13 @@ module _ (t : Tree) (b old : List ℕ) (at : Cursor) (im₀ : Images) where
         record {
           inside = f .inside;
           counted = f .counted;
-          forward = λ r i. rw cursor (progress t b (length old) at im₀ r i);
+          forward = λ r i. rw cursor (progress t g b (length old) at im₀ r i);
         }
 
     pub fill-next : (line : Line) {new : List ℕ} {after : Images} → FillLeft out next len im → ends b (length out - len) next ≡ false
-        → textOf line ≡ lineAt t b next im → line .len ≤ 96 → length new ≡ length out → after ≡ ranAt t b next im .after
-        → new ≡ putIn out len (textOf line) (line .len) → {kind size : ℕ} → kind ≡ byteIn b (next .offset) → size ≡ sizeOf kind
-        → FillLeft new (record { offset = next .offset + size; number = next .number + 1 }) (len + line .len) after
-    fill-next line {new} {after} f e text small kept ran put ek es = rw (es, ek) (turn (f .left) (f .enough) (f .same))
+        → textOf line ≡ lineAt t g b next im → line .len ≤ 96 → length new ≡ length out → after ≡ ranAt t g b next im .after
+        → new ≡ putIn out len (textOf line) (line .len) → {to : Cursor} → to ≡ past b next → FillLeft new to (len + line .len) after
+    fill-next line {new} {after} f e text small kept ran put p = rw p (turn (f .left) (f .enough) (f .same))
       where
         more : (next .offset < length b) × (96 ≤ length old - len)
         more = on b (length old - len) next (rw (f .long) at e)
@@ -135,21 +129,21 @@ module _ (t : Tree) (b old : List ℕ) (at : Cursor) (im₀ : Images) where
             let tail = length-append (textOf line) (drop (len + line .len) out) in
             omega (arith, ap length put, parts, head, tail, length-drop (len + line .len) out, fits)
 
-        room : length old - len - length (lineAt t b next im) ≡ length old - (len + line .len)
+        room : length old - len - length (lineAt t g b next im) ≡ length old - (len + line .len)
         room = rw (← text, long) (omega arith)
 
-        so-far : take len out ++ lineAt t b next im ≡ take (len + line .len) new
+        so-far : take len out ++ lineAt t g b next im ≡ take (len + line .len) new
         so-far =
             ap (λ (s : List ℕ). take len out ++ s) (sym text)
             ∙ sym (put-take out len (textOf line) (line .len) long fits)
             ∙ ap (take (len + line .len)) (sym put)
 
         turn : (left : ℕ) → length b ≤ next .offset + left
-            → partOf t b (length old) at im₀ ≡ behind (take len out) (partUpTo left t b (length old - len) next im)
+            → partOf t g b (length old) at im₀ ≡ behind (take len out) (partUpTo left t g b (length old - len) next im)
             → FillLeft new (past b next) (len + line .len) after
         turn zero n q = absurd (omega (arith, more .0))
         turn (suc left) n q =
-            let rest : ℕ → Images → Part = λ k i. partUpTo left t b k (past b next) i in
+            let rest : ℕ → Images → Part = λ k i. partUpTo left t g b k (past b next) i in
             let left-room = length old - (len + line .len) in
             record {
               left = left;
@@ -159,10 +153,10 @@ module _ (t : Tree) (b old : List ℕ) (at : Cursor) (im₀ : Images) where
               inside = omega (arith, fits, f .long);
               same =
                   q
-                  ∙ ap (behind (take len out)) (part-step t b left (length old - len) next im (rw (f .long) at e))
-                  ∙ ap (λ (k : ℕ). behind (take len out) (behind (lineAt t b next im) (rest k (ranAt t b next im .after)))) room
-                  ∙ behind-both (take len out) (lineAt t b next im) (rest left-room (ranAt t b next im .after))
-                  ∙ ap (λ (i : Images). behind (take len out ++ lineAt t b next im) (rest left-room i)) (sym ran)
+                  ∙ ap (behind (take len out)) (part-step t g b left (length old - len) next im (rw (f .long) at e))
+                  ∙ ap (λ (k : ℕ). behind (take len out) (behind (lineAt t g b next im) (rest k (ranAt t g b next im .after)))) room
+                  ∙ behind-both (take len out) (lineAt t g b next im) (rest left-room (ranAt t g b next im .after))
+                  ∙ ap (λ (i : Images). behind (take len out ++ lineAt t g b next im) (rest left-room i)) (sym ran)
                   ∙ ap (λ (s : List ℕ). behind s (rest left-room after)) so-far;
               rest = rw put (put-drop out len (textOf line) (line .len) long fits ∙ drop-later len (line .len) out old (f .rest));
             }

@@ -1,3 +1,4 @@
 pub mod Output
 pub mod Filling
 pub mod Fills
+pub mod Place

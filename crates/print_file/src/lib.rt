@@ -4,10 +4,11 @@ pub mod fill;
 mod line;
 pub mod start;
 
-// The next event of a file: its offset and its number, which counts from 1.
+// The next event of a file: its offset, its number, which counts from 1, and the seat that acts.
 pub struct Cursor {
     pub offset: usize,
     pub number: u32,
+    pub seat: u8,
 }
 
 // The bytes that were written, and the cursor after them.

@@ -92,6 +92,12 @@ fn silent_line(n: u32, crossings: u32) -> Line
     begun(n, b"silent").byte(b'\n')
 }
 
+fn denied_line(n: u32, crossings: u32) -> Line
+    ensures { λ r. ⌜ (textOf r ≡ endingLine n crossings Ending.Denied) × (r .len ≤ 96) ⌝ }
+{
+    begun(n, b"denied").decimal_field(crossings).byte(b'\n')
+}
+
 pub fn ending_line(n: u32, crossings: u32, e: Ending) -> Line
     ensures { λ r. ⌜ (textOf r ≡ endingLine n crossings e) × (r .len ≤ 96) ⌝ }
 {
@@ -112,5 +118,6 @@ pub fn ending_line(n: u32, crossings: u32, e: Ending) -> Line
         } => clash_line(n, crossings, holder, first, second),
         Ending::Special { holder } => special_line(n, crossings, holder),
         Ending::Silent => silent_line(n, crossings),
+        Ending::Denied => denied_line(n, crossings),
     }
 }

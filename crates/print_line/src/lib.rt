@@ -3,6 +3,7 @@ pub mod ending;
 mod field;
 pub mod refused;
 pub mod report;
+pub mod seat;
 mod text;
 
 // A line is its first `len` bytes.

@@ -34,13 +34,20 @@ pub struct Range {
     pub last: u64,
 }
 
-// A decoded rack: first and last address of host memory, and `count` nodes in file order.
-// It may hold anything; crate `rack_refusals` says whether it is a rack.
+// What a seat may write of a node: whether a seat record names the two together, and its mask, bit i for dword i.
+pub struct Grant {
+    pub named: bool,
+    pub mask: u16,
+}
+
+// A decoded rack: first and last address of host memory, `count` nodes in file order, and the grants of seats 1 to 15, 96 for each.
+// It may hold anything; crates `rack_refusals` and `seat` say whether it is a rack.
 pub struct Rack {
     pub first: u64,
     pub last: u64,
     pub count: u8,
     pub nodes: [Node; 96],
+    pub grants: [Grant; 1440],
 }
 
 pub fn kind_number(k: Kind) -> u8

@@ -6,6 +6,8 @@ use lib.ListN.{length}
 use Rattle.rack.specs.definitions.Table.{treeOf}
 use Rattle.rack.specs.definitions.Tree.{Tree}
 use Rattle.rack.specs.definitions.Refusal.{rackRefusal}
+use Rattle.seat.specs.definitions.Grants.{Grants}
+use Rattle.seat.specs.definitions.Table.{grantsOf}
 use Rattle.file_record.specs.declared.Loaded.{Loaded}
 use Rattle.file_record.specs.definitions.Load.{fileIn}
 use Rattle.file_record.specs.definitions.Loads.{Loads}
@@ -16,13 +18,13 @@ module _ (b : List ℕ) (r : Loaded) (l : Loads r (fileIn b)) where
   pub loaded-offset : r .offset ≤ 65536
   loaded-offset = rw (l .offset) (file-offset b)
 
-  pub loaded-accepted : r .refusal ≡ 0 → Accepted b (treeOf (r .table)) (r .offset)
+  pub loaded-accepted : r .refusal ≡ 0 → Accepted b (treeOf (r .table)) (grantsOf (r .grants)) (r .offset)
   loaded-accepted z =
       let e = sym (l .refusal) ∙ z in
-      record { refusal = e; tree = l .tree e; first = l .offset }
+      record { refusal = e; tree = l .tree e; grants = l .grants e; first = l .offset }
 
 -- its rack is accepted, and it is no longer than a file may be
-module _ (b : List ℕ) {t : Tree} {offset : ℕ} (a : Accepted b t offset) where
+module _ (b : List ℕ) {t : Tree} {g : Grants} {offset : ℕ} (a : Accepted b t g offset) where
   pub accepted-rack : rackRefusal t ≡ 0
   accepted-rack = rw (a .tree) (file-accepted b (a .refusal))
 

@@ -5,10 +5,12 @@ ghost use Prim.Native.Nat.{_+_, _≤_};
 ghost use lib.ListN.{length};
 ghost use Rattle.rack.specs.definitions.Table.{treeOf};
 ghost use Rattle.rack.specs.definitions.Refusal.{rackRefusal};
+ghost use Rattle.seat.specs.definitions.Table.{grantsOf};
 ghost use Rattle.register_image.specs.definitions.Image.{images};
 ghost use Rattle.register_image.specs.definitions.Fixed.{lengthsWrong};
 ghost use Rattle.print_file.specs.definitions.Filling.{partOf};
-ghost use Rattle.rackrun.specs.definitions.Run.{afterPart, runEnd, Accepted, Prints};
+ghost use Rattle.print_file.specs.definitions.Place.{afterPart};
+ghost use Rattle.rackrun.specs.definitions.Run.{runEnd, Accepted, Prints};
 ghost use Rattle.rackrun.specs.definitions.Input.{Within};
 use file_load::load_file;
 use file_record::Loaded;
@@ -22,6 +24,7 @@ use print_line::Line;
 use rack::table::Table;
 use rack::table::bridges_below;
 use rack::table::count_of;
+use seat::table::GrantTable;
 
 // The first n bytes; false where they cannot be written.
 fn print(bytes: &[u8], n: usize) -> bool {
@@ -53,16 +56,17 @@ enum Printed {
 fn print_part(
     file: &[u8],
     table: &Table,
+    grants: &GrantTable,
     bridges: &mut [u8],
     devices: &mut [u8],
     at: Cursor,
 ) -> Printed
     requires { ⌜ (rackRefusal (treeOf (now table)) ≡ 0) × (length (now file) ≤ 65536) × (at .number ≤ at .offset + 1) ⌝ }
-    ensures { λ r. ⌜ Prints r (images (now (bridges .exit)) (now (devices .exit))) (afterPart (partOf (treeOf (now (table .entry))) (now (file .entry)) 65536 at (images (now (bridges .entry)) (now (devices .entry))))) ⌝ }
+    ensures { λ r. ⌜ Prints r (images (now (bridges .exit)) (now (devices .exit))) (afterPart (partOf (treeOf (now (table .entry))) (grantsOf (now (grants .entry))) (now (file .entry)) 65536 at (images (now (bridges .entry)) (now (devices .entry))))) ⌝ }
 {
     let mut space = io::large_buffer();
     let out: &mut [u8] = &mut space;
-    let f = fill(file, table, bridges, devices, at, out);
+    let f = fill(file, table, grants, bridges, devices, at, out);
     if print(out, f.len) {
         let next = f.next;
         return Printed::UpTo(next);
@@ -70,20 +74,21 @@ fn print_part(
     Printed::Failed
 }
 
-// The whole output of an accepted file, part by part, with its table and the offset of its first event.
+// The whole output of an accepted file, part by part, with its tables and the offset of its first event.
 fn print_events(
     file: &[u8],
     table: &Table,
+    grants: &GrantTable,
     bridges: &mut [u8],
     devices: &mut [u8],
     offset: usize,
 ) -> Printed
-    requires { ⌜ Accepted (now file) (treeOf (now table)) offset × (lengthsWrong (treeOf (now table)) (images (now bridges) (now devices)) ≡ false) ⌝ }
+    requires { ⌜ Accepted (now file) (treeOf (now table)) (grantsOf (now grants)) offset × (lengthsWrong (treeOf (now table)) (images (now bridges) (now devices)) ≡ false) ⌝ }
     ensures { λ r. ⌜ Prints r (images (now (bridges .exit)) (now (devices .exit))) (runEnd (now (file .entry)) (images (now (bridges .entry)) (now (devices .entry)))) ⌝ }
 {
     let mut next = start(table, bridges, devices, offset);
     while next.offset < file.len() {
-        let Printed::UpTo(on) = print_part(file, table, bridges, devices, next) else {
+        let Printed::UpTo(on) = print_part(file, table, grants, bridges, devices, next) else {
             return Printed::Failed;
         };
         next = on;
@@ -106,16 +111,18 @@ fn devices_image() -> [u8; 4096]
 
 // Runs an accepted file; whether its output could be written.
 fn run_loaded(file: &[u8], l: Loaded) -> bool
-    requires { ⌜ Accepted (now file) (treeOf (l .table)) (l .offset) ⌝ }
+    requires { ⌜ Accepted (now file) (treeOf (l .table)) (grantsOf (l .grants)) (l .offset) ⌝ }
 {
     let count = count_of(&l.table) as usize;
     let b = bridges_below(&l.table, count);
     let d = count - b;
+    let grants = l.grants;
     let mut bridges = bridges_image();
     let mut devices = devices_image();
     let printed = print_events(
         file,
         &l.table,
+        &grants,
         &mut bridges[..64 * b],
         &mut devices[..64 * d],
         l.offset,

@@ -58,6 +58,10 @@ pub enum Answer {
     Clash { crossings: usize, holder: u8, claimants: (u8, u8) },
     /// "`special` with crossings and holder"
     Special { crossings: usize, holder: u8 },
+    /// "`denied` with its crossings"
+    Denied { crossings: usize },
+    /// "`seat` and its number"
+    Seat { seat: u8 },
     /// `silent`
     Silent,
     /// `pass`
@@ -110,6 +114,8 @@ impl fmt::Display for Answer {
                 write!(f, "clash {crossings} {holder} {a} {b}")
             }
             Answer::Special { crossings, holder } => write!(f, "special {crossings} {holder}"),
+            Answer::Denied { crossings } => write!(f, "denied {crossings}"),
+            Answer::Seat { seat } => write!(f, "seat {seat}"),
             Answer::Silent => f.write_str("silent"),
             Answer::Pass => f.write_str("pass"),
             Answer::Fault(fault) => fault.fmt(f),

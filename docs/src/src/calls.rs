@@ -11,10 +11,10 @@ use crate::refuse::{self, Fields};
 use crate::registers;
 use crate::windows::{region_ends, Address, Ends, Windows};
 
-/// The machine of a call that is not refused: 6 to 12, then 13.
+/// The machine of a call that is not refused: 6 to 12, then 13 and 14.
 fn accept(rack: &Rack, bridges: &[u8], devices: &[u8], fields: &Fields) -> Result<Machine, u8> {
     let machine = Machine::with_images(rack.clone(), bridges, devices)?;
-    match refuse::fields(rack, fields) {
+    match refuse::fields(rack, fields).or_else(|| refuse::grants(rack)) {
         Some(number) => Err(number),
         None => Ok(machine),
     }
@@ -31,15 +31,20 @@ fn hand_back(machine: &Machine, bridges: &mut [u8], devices: &mut [u8]) {
     crate::bytes::put(devices, 0, machine.devices());
 }
 
-/// Runs one event.
+/// Runs one event: "A call that runs an event is told the acting seat". 15 is looked at for
+/// every event, and who acts after a seat event is for the caller to say.
 pub fn event(
     rack: &Rack,
     bridges: &mut [u8],
     devices: &mut [u8],
+    seat: u8,
     event: &Event,
 ) -> Result<Answer, u8> {
     let mut machine = accept(rack, bridges, devices, &Fields::of_event(event))?;
-    let answer = run_event(&mut machine, event);
+    if let Some(number) = refuse::seat(rack, seat).or_else(|| refuse::seat_of_event(rack, event)) {
+        return Err(number);
+    }
+    let answer = run_event(&mut machine, seat, event);
     hand_back(&machine, bridges, devices);
     Ok(answer)
 }
@@ -50,16 +55,17 @@ pub fn check(rack: &Rack, bridges: &[u8], devices: &[u8]) -> Result<Answer, u8> 
 }
 
 /// The C call that runs an event: "1 to 10 as for a file"; "The event to run is read
-/// next, before 11"; then 11 to 13.
+/// next, before 11"; then 11 to 15.
 pub fn event_of_bytes(
     records: &[u8],
     event_bytes: &[u8],
     bridges: &mut [u8],
     devices: &mut [u8],
+    seat: u8,
 ) -> Result<Answer, u8> {
     let rack = rack_of_bytes(records)?;
     let read = file::read_event(event_bytes)?;
-    event(&rack, bridges, devices, &read)
+    event(&rack, bridges, devices, seat, &read)
 }
 
 /// The C call that checks.
@@ -67,10 +73,12 @@ pub fn check_of_bytes(records: &[u8], bridges: &[u8], devices: &[u8]) -> Result<
     check(&rack_of_bytes(records)?, bridges, devices)
 }
 
-/// The reset of both images. What stands in them plays no part, so that 12 refuses none.
+/// The reset of both images: 1 to 10, 11, 14. What stands in them plays no part, so that 12
+/// refuses none.
 pub fn reset_of_bytes(records: &[u8], bridges: &mut [u8], devices: &mut [u8]) -> Result<(), u8> {
     let rack = rack_of_bytes(records)?;
-    if let Some(number) = refuse::lengths(&rack, bridges, devices) {
+    let lengths = refuse::lengths(&rack, bridges, devices);
+    if let Some(number) = lengths.or_else(|| refuse::grants(&rack)) {
         return Err(number);
     }
     hand_back(&Machine::at_reset(rack)?, bridges, devices);

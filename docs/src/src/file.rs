@@ -5,6 +5,7 @@ use std::fmt;
 use crate::bytes::{u16_at, u32_at, u64_at, u8_at};
 use crate::rack::{Event, Header, Node, Options, Rack, Region};
 use crate::refuse::{self, Fields};
+use crate::seats::{Grant, Grants};
 
 /// 1: "The file is longer than 65,536 bytes."
 pub const LONGEST: usize = 65_536;
@@ -12,7 +13,7 @@ pub const LONGEST: usize = 65_536;
 /// A refusal of a file: "`refused N at O`".
 #[derive(Clone, Copy, Debug, PartialEq, Eq)]
 pub struct Refused {
-    /// 1 to 13.
+    /// 1 to 10 and 13 to 15.
     pub number: u8,
     /// "the record's offset (65,536 for 1; 0 if empty)"
     pub offset: usize,
@@ -24,8 +25,8 @@ impl fmt::Display for Refused {
     }
 }
 
-/// The body's length by kind; none if "The kind is not 1 to 8" nor 13, which "becomes known
-/// to refusal 2".
+/// The body's length by kind; none if "The kind is not 1 to 8" nor one of those that "become
+/// known to refusal 2": 9, 10 and 13.
 fn body_length(kind: u8) -> Option<usize> {
     match kind {
         1 => Some(16),
@@ -36,39 +37,47 @@ fn body_length(kind: u8) -> Option<usize> {
         6 => Some(10),
         7 => Some(6),
         8 => Some(0),
+        9 => Some(4),  // "seat, node, two-byte mask"
+        10 => Some(1), // the seat
         13 => Some(6), // "Kind 13 has kind 2's body"
         _ => None,
     }
 }
 
-/// "Kinds 1 to 3 are rack records, 4 to 8 events." Kind 13 is no event.
+/// "Kinds 1 to 3 are rack records, 4 to 8 events." Kind 10 is an event, 9 and 13 are none.
 fn is_event(kind: u8) -> bool {
-    (4..=8).contains(&kind)
+    matches!(kind, 4..=8 | 10)
+}
+
+/// What the records stand in.
+#[derive(Clone, Copy, Debug, PartialEq, Eq)]
+enum Source {
+    /// A whole rack file: rack records, then events.
+    File,
+    /// The rack bytes of a call: rack records alone.
+    Call,
 }
 
 /// A whole rack file: rack records, then events.
 pub fn read(bytes: &[u8]) -> Result<(Rack, Vec<Event>), Refused> {
-    read_records(bytes, |_| true)
+    read_records(bytes, Source::File)
 }
 
-/// The rack records of a call: "1 to 10 as for a file, an event kind there being 2".
+/// The rack records of a call: "1 to 10 as for a file, an event kind there being 2". A faulty
+/// seat record does not stop the reading, as 14 comes "after 13"; the grants then say so.
 pub fn read_rack(bytes: &[u8]) -> Result<Rack, Refused> {
-    read_records(bytes, |kind| !is_event(kind)).map(|(rack, _)| rack)
+    read_records(bytes, Source::Call).map(|(rack, _)| rack)
 }
 
-/// "A file stops at its first faulty record, with the record's offset". Kinds that may not
-/// stand here are as unknown as those that no record has.
-fn read_records(
-    bytes: &[u8],
-    may_stand: impl Fn(u8) -> bool,
-) -> Result<(Rack, Vec<Event>), Refused> {
+/// "A file stops at its first faulty record, with the record's offset".
+fn read_records(bytes: &[u8], source: Source) -> Result<(Rack, Vec<Event>), Refused> {
     if bytes.len() > LONGEST {
         return Err(Refused { number: 1, offset: LONGEST });
     }
-    let mut reading = Reading { rack: None, events: Vec::new() };
+    let mut reading = Reading { source, rack: None, events: Vec::new() };
     let mut offset = 0;
     while let Some(rest) = bytes.get(offset..).filter(|rest| !rest.is_empty()) {
-        match one_record(rest, &may_stand).and_then(|(kind, body)| reading.take(kind, body)) {
+        match one_record(rest, source).and_then(|(kind, body)| reading.take(kind, body)) {
             Ok(length) => offset += 1 + length,
             Err(number) => return Err(Refused { number, offset }),
         }
@@ -78,11 +87,13 @@ fn read_records(
     Ok((rack, reading.events))
 }
 
-/// Kind and body of the record that `bytes` begin with, or refusal 2 or 3.
-fn one_record(bytes: &[u8], may_stand: impl Fn(u8) -> bool) -> Result<(u8, &[u8]), u8> {
+/// Kind and body of the record that `bytes` begin with, or refusal 2 or 3. Kinds that may not
+/// stand here are as unknown as those that no record has.
+fn one_record(bytes: &[u8], source: Source) -> Result<(u8, &[u8]), u8> {
     let kind = u8_at(bytes, 0);
+    let may_stand = source == Source::File || !is_event(kind);
     // 2: "The kind is not 1 to 8."
-    let length = body_length(kind).filter(|_| may_stand(kind)).ok_or(2u8)?;
+    let length = body_length(kind).filter(|_| may_stand).ok_or(2u8)?;
     // 3: "The body is cut short."
     let body = bytes.get(1..1 + length).ok_or(3u8)?;
     Ok((kind, body))
@@ -90,29 +101,39 @@ fn one_record(bytes: &[u8], may_stand: impl Fn(u8) -> bool) -> Result<(u8, &[u8]
 
 /// What has been read so far.
 struct Reading {
+    source: Source,
     rack: Option<Rack>,
     events: Vec<Event>,
 }
 
 impl Reading {
-    /// Takes one record and gives its body's length, or the refusal (4 to 13).
+    /// Takes one record and gives its body's length, or the refusal (4 to 15).
     fn take(&mut self, kind: u8, body: &[u8]) -> Result<usize, u8> {
         match (&mut self.rack, kind) {
             (None, 1) => {
                 let (host_first, host_last) = (u64_at(body, 0), u64_at(body, 8));
-                self.rack = Some(Rack { host_first, host_last, nodes: Vec::new() });
+                let (nodes, grants) = (Vec::new(), Grants::default());
+                self.rack = Some(Rack { host_first, host_last, nodes, grants });
             }
             // 4: "the first is not a host, or a later one is."
             (None, _) | (Some(_), 1) => return Err(4),
             (Some(rack), _) if is_event(kind) => {
                 let event = event(kind, body).ok_or(2u8)?;
-                match refuse::fields(rack, &Fields::of_event(&event)) {
+                let fields = refuse::fields(rack, &Fields::of_event(&event));
+                match fields.or_else(|| refuse::seat_of_event(rack, &event)) {
                     Some(number) => return Err(number),
                     None => self.events.push(event),
                 }
             }
             // 5: "A rack record follows an event."
             (Some(_), _) if !self.events.is_empty() => return Err(5),
+            (Some(rack), 9) => {
+                rack.grants.take(rack.nodes.len(), grant(body));
+                // In a file 14 stands at its record; a call gives it in its turn.
+                if let (Source::File, Some(number)) = (self.source, refuse::grants(rack)) {
+                    return Err(number);
+                }
+            }
             (Some(rack), _) => take_node(rack, node(kind, body))?,
         }
         Ok(body.len())
@@ -148,6 +169,11 @@ pub(crate) fn node(kind: u8, body: &[u8]) -> Node {
     }
 }
 
+/// "kind 9: seat, node, two-byte mask"
+fn grant(body: &[u8]) -> Grant {
+    Grant { seat: u8_at(body, 0), node: u8_at(body, 1), mask: u16_at(body, 2) }
+}
+
 /// The event of a kind and body of the right length; none for other kinds.
 fn event(kind: u8, body: &[u8]) -> Option<Event> {
     let (first, second, third) = (u8_at(body, 0), u8_at(body, 1), u8_at(body, 2));
@@ -163,6 +189,7 @@ fn event(kind: u8, body: &[u8]) -> Option<Event> {
         6 => Some(Event::Memory { initiator: first, direction: second, address: u64_at(body, 2) }),
         7 => Some(Event::Io { initiator: first, direction: second, address: u32_at(body, 2) }),
         8 => Some(Event::Check),
+        10 => Some(Event::Seat { seat: first }),
         _ => None,
     }
 }

@@ -1,11 +1,12 @@
 //! A second, independent implementation of `01-scope.md` ("Bridge trees, claims and routes")
-//! with requests E4, E11 and E14 of `02-change-requests.md`. Text in quotes in the comments is
-//! a sentence of these two documents; what speaks of special cycles is from E4, what speaks
-//! of older bridges from E11, what speaks of the arbiter from E14.
+//! with requests E1, E4, E11 and E14 of `02-change-requests.md`. Text in quotes in the comments
+//! is a sentence of these two documents; what speaks of seats is from E1, what speaks of special
+//! cycles from E4, what speaks of older bridges from E11, what speaks of the arbiter from E14.
 //!
 //! - [`file`]: a rack file read to a rack and its events, or to a refusal.
 //! - [`rack`]: the decoded rack, a bridge's options, buses and agents.
-//! - [`refuse`]: refusals 6 to 13 of a decoded rack, images and a call's fields.
+//! - [`seats`]: what each seat may write.
+//! - [`refuse`]: refusals 6 to 15 of a decoded rack, images and a call's fields.
 //! - [`registers`]: masks, reset images, register read and write, sizing.
 //! - [`machine`]: a rack that passed 6 to 10 with images that passed 11 and 12.
 //! - [`windows`]: both ends of windows and regions, and the windows' predicates.
@@ -14,7 +15,7 @@
 //! - [`check`]: the rack check by boundary points.
 //! - [`answer`]: the endings of an event and the lines that show them.
 //! - [`calls`]: all of the above as calls over a rack and two lent images.
-//! - [`program`]: the whole output for the bytes of a rack file.
+//! - [`program`]: an event's run, and the whole output for the bytes of a rack file.
 //! - [`arbiter`]: whose turn it is on a shared bus; it needs no rack.
 //! - [`script`]: scripts of calls as `CALLS.md` says, and what every call gives.
 
@@ -32,4 +33,5 @@ pub mod refuse;
 pub mod registers;
 pub mod route;
 pub mod script;
+pub mod seats;
 pub mod windows;

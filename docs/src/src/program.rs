@@ -6,16 +6,48 @@ use crate::answer::Answer;
 use crate::check::check;
 use crate::file;
 use crate::machine::Machine;
-use crate::rack::{Event, HOST};
+use crate::rack::{Event, Rack, HOST};
 use crate::route::{access_route, config_route, settle, Ending, Target};
+use crate::seats;
 use crate::windows::Address;
 
-/// Runs one event that refusal 13 does not refuse.
-pub fn run_event(machine: &mut Machine, event: &Event) -> Answer {
+/// Where a run stands.
+#[derive(Clone, Debug, PartialEq, Eq)]
+pub struct Run {
+    /// The rack and its registers.
+    pub machine: Machine,
+    /// The acting seat.
+    pub seat: u8,
+}
+
+impl Run {
+    /// "the run starts as seat 0, which may write all"; from reset, or the number (6 to 10)
+    /// that refuses the rack.
+    pub fn at_reset(rack: Rack) -> Result<Run, u8> {
+        Ok(Run { machine: Machine::at_reset(rack)?, seat: seats::ALL })
+    }
+
+    /// Runs one event. "Event kind 10 (seat) says who acts from then on".
+    pub fn step(&mut self, event: &Event) -> Answer {
+        if let Event::Seat { seat } = *event {
+            self.seat = seat;
+        }
+        run_event(&mut self.machine, self.seat, event)
+    }
+}
+
+/// Runs one event that refusals 13 and 15 do not refuse, by that seat. A seat event changes
+/// nothing here; who acts next is for the caller to say.
+pub fn run_event(machine: &mut Machine, seat: u8, event: &Event) -> Answer {
     match *event {
         Event::ConfigWrite { bus, device_function, register, enables, data } => {
             let route = config_route(machine, bus, Target::of_write(device_function, register));
             if let Ending::Node(node) = route.ending {
+                // "A write that reaches a register outside the grant ends as `denied` with its
+                // crossings, and stores nothing".
+                if !machine.rack().grants.allow(seat, node, register) {
+                    return Answer::Denied { crossings: route.crossings.len() };
+                }
                 machine.write(node, register, enables, data);
             }
             settle(machine, &route, HOST, false)
@@ -37,6 +69,7 @@ pub fn run_event(machine: &mut Machine, event: &Event) -> Answer {
             run_access(machine, initiator, Address::Io(address), false)
         }
         Event::Check => run_check(machine),
+        Event::Seat { seat } => Answer::Seat { seat },
     }
 }
 
@@ -62,12 +95,12 @@ pub fn run(bytes: &[u8], out: &mut impl Write) -> io::Result<()> {
         Err(refused) => return writeln!(out, "{refused}"),
     };
     // A rack that was read from a file has passed refusals 6 to 10.
-    if let Ok(mut machine) = Machine::at_reset(rack) {
+    if let Ok(mut run) = Run::at_reset(rack) {
         let mut checked = None;
         for (number, event) in (1usize..).zip(&events) {
             let answer = match event {
-                Event::Check => check_again(&machine, &mut checked),
-                _ => run_event(&mut machine, event),
+                Event::Check => check_again(&run.machine, &mut checked),
+                _ => run.step(event),
             };
             writeln!(out, "{number} {answer}")?;
         }

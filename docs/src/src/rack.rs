@@ -1,5 +1,7 @@
 //! The decoded rack: host memory, nodes, buses and the agents of a bus.
 
+use crate::seats::Grants;
+
 /// "A parent is a bridge's node number or 255, the root bus; 255 also names the host."
 pub const HOST: u8 = 255;
 
@@ -76,7 +78,7 @@ impl Node {
     }
 }
 
-/// A decoded rack. It may still be one that refusals 6 to 10 refuse.
+/// A decoded rack. It may still be one that refusals 6 to 10 and 14 refuse.
 #[derive(Clone, Debug, Default, PartialEq, Eq)]
 pub struct Rack {
     /// First address of host memory.
@@ -85,6 +87,8 @@ pub struct Rack {
     pub host_last: u64,
     /// Bridges and devices, by number.
     pub nodes: Vec<Node>,
+    /// What each seat may write.
+    pub grants: Grants,
 }
 
 impl Rack {
@@ -156,7 +160,7 @@ impl Rack {
     }
 }
 
-/// Record kinds 4 to 8.
+/// Record kinds 4 to 8 and 10.
 #[derive(Clone, Copy, Debug, PartialEq, Eq)]
 pub enum Event {
     /// "4 configuration write (8)"
@@ -201,4 +205,9 @@ pub enum Event {
     },
     /// "8 check (0)"
     Check,
+    /// "Event kind 10 (seat) says who acts from then on"
+    Seat {
+        /// 0 or a seat that has a record.
+        seat: u8,
+    },
 }

@@ -1,4 +1,4 @@
-//! "Refused, in this order": 6 to 13, of a decoded rack, images and a call's fields.
+//! "Refused, in this order": 6 to 15, of a decoded rack, images and a call's fields.
 
 use crate::rack::{Event, Header, Node, Rack, Region, HOST, MOST_BRIDGES, MOST_DEVICES};
 use crate::registers;
@@ -127,7 +127,7 @@ impl Fields {
                 fields.initiator = Some(initiator);
                 fields.direction = Some(direction);
             }
-            Event::Check => {}
+            Event::Check | Event::Seat { .. } => {}
         }
         fields
     }
@@ -151,8 +151,29 @@ pub fn fields(rack: &Rack, fields: &Fields) -> Option<u8> {
     fault.then_some(13)
 }
 
-/// Refusals 6 to 13 of a call: "6 to 10 to the decoded rack node by node, ...,
-/// then 11 to 13, and return the number."
+/// Refusal 14 of a rack: one of its seat records is faulty.
+pub fn grants(rack: &Rack) -> Option<u8> {
+    rack.grants.is_faulty().then_some(14)
+}
+
+/// Refusals 6 to 14 of a call: "6 to 10 to the decoded rack node by node, ...,
+/// then 11 to 13, and return the number"; 14 comes "after 13".
 pub fn call(decoded: &Rack, bridges: &[u8], devices: &[u8], named: &Fields) -> Option<u8> {
-    rack(decoded).or_else(|| images(decoded, bridges, devices)).or_else(|| fields(decoded, named))
+    rack(decoded)
+        .or_else(|| images(decoded, bridges, devices))
+        .or_else(|| fields(decoded, named))
+        .or_else(|| grants(decoded))
+}
+
+/// Refusal 15: "a seat other than 0 without a record, in a seat event or told to a call".
+pub fn seat(rack: &Rack, seat: u8) -> Option<u8> {
+    (!rack.grants.know(seat)).then_some(15)
+}
+
+/// Refusal 15 of the seat that an event names, if it names one.
+pub fn seat_of_event(rack: &Rack, event: &Event) -> Option<u8> {
+    match *event {
+        Event::Seat { seat: named } => seat(rack, named),
+        _ => None,
+    }
 }

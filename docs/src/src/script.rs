@@ -6,6 +6,7 @@ use crate::answer::{Abort, Answer, Fault, Kind};
 use crate::arbiter::{self, State, Step};
 use crate::bytes::{u16_at, u32_at, u64_at, u8_at};
 use crate::rack::Rack;
+use crate::seats::{Grant, Grants};
 use crate::windows::Ends;
 use crate::{calls, file};
 
@@ -16,12 +17,18 @@ const MOST_RACK: usize = 65_600;
 /// "count of bytes of the bridges' image, at most 4,160", and of the devices' image.
 const MOST_IMAGE: usize = 4_160;
 
-/// "A decoded rack has always 1,265 rack bytes".
-const DECODED: usize = 1_265;
+/// "A decoded rack has always 5,585 rack bytes".
+const DECODED: usize = 5_585;
 /// "first and last address of host memory (8 each), a count of nodes (1)": then the nodes.
 const NODES: usize = 17;
 /// "96 nodes of 13 bytes"
 const NODE: usize = 13;
+/// "96 nodes", of which each seat has a pair.
+const MOST_NODES: usize = 96;
+/// "then, for each seat 1 to 15 and in it for each of 96 nodes, 3 bytes"
+const PAIRS: usize = NODES + MOST_NODES * NODE;
+/// "3 bytes: whether the pair is named ... and its mask (2)"
+const PAIR: usize = 3;
 
 /// Makes every call of a script and writes what it gives. "A script that is cut short
 /// ends at its last whole call." So does one that goes on with what is no call.
@@ -38,6 +45,7 @@ pub fn run(input: &mut impl Read, out: &mut impl Write) -> io::Result<()> {
 /// A call, "with all that it needs".
 struct Call {
     operation: u8,
+    /// "node, or the acting seat"
     node: u8,
     /// "register, region or window"
     named: u8,
@@ -126,8 +134,8 @@ impl Call {
             4 => calls::size(rack, b, d, node, named).map(|size| numbers(&[size])),
             // "both ends of a window or region"
             5 => calls::ends(rack, b, d, node, named).map(both_ends),
-            // "run of an event": "one well-formed record of kind 4 to 8"
-            6 => calls::event(rack, b, d, &file::read_event(&self.event).ok()?).map(ending),
+            // "run of an event": "one well-formed record of kind 4 to 8 or 10"
+            6 => calls::event(rack, b, d, node, &file::read_event(&self.event).ok()?).map(ending),
             // "check"
             7 => calls::check(rack, b, d).map(ending),
             _ => return None,
@@ -140,10 +148,10 @@ impl Call {
         let (b, d) = (&mut self.bridges, &mut self.devices);
         let result = match self.operation {
             // "run of an event"
-            8 => calls::event_of_bytes(&self.rack, &self.event, b, d).map(ending),
+            8 => calls::event_of_bytes(&self.rack, &self.event, b, d, self.node).map(ending),
             // "check"
             9 => calls::check_of_bytes(&self.rack, b, d).map(ending),
-            // "reset of both images: refused by 1 to 10, then 11, never by 12"
+            // "reset of both images: refused by 1 to 10, then 11, then 14, never by 12"
             10 => calls::reset_of_bytes(&self.rack, b, d).map(|()| numbers(&[])),
             // "both ends of a window or region"
             11 => calls::ends_of_bytes(&self.rack, b, d, self.node, self.named).map(both_ends),
@@ -189,7 +197,7 @@ fn decoded(bytes: &[u8]) -> Option<Rack> {
     // "Only the first `count` nodes are nodes of the rack".
     let count = usize::from(u8_at(bytes, 16));
     let mut nodes = Vec::with_capacity(count);
-    for record in bytes.get(NODES..)?.chunks_exact(NODE).take(count) {
+    for record in bytes.get(NODES..PAIRS)?.chunks_exact(NODE).take(count) {
         // "kind (2 a bridge, 3 a device, 13 an older bridge; never another), parent, device
         // number, vendor ID (2), device ID (2), three regions of kind and exponent": a
         // device's body.
@@ -204,7 +212,26 @@ fn decoded(bytes: &[u8]) -> Option<Rack> {
     // that are not refused are 32 bridges and 64 devices, so that 6 refuses the next one,
     // whatever it is.
     nodes.resize(count, file::node(3, &[]));
-    Some(Rack { host_first: u64_at(bytes, 0), host_last: u64_at(bytes, 8), nodes })
+    let grants = grants(bytes.get(PAIRS..)?, count)?;
+    Some(Rack { host_first: u64_at(bytes, 0), host_last: u64_at(bytes, 8), nodes, grants })
+}
+
+/// The grants of a decoded rack with so many nodes; none if these bytes hold none.
+fn grants(bytes: &[u8], count: usize) -> Option<Grants> {
+    let mut grants = Grants::default();
+    for (seat, pairs) in (1u8..).zip(bytes.chunks_exact(MOST_NODES * PAIR)) {
+        for (node, pair) in (0u8..).zip(pairs.chunks_exact(PAIR)) {
+            let grant = Grant { seat, node, mask: u16_at(pair, 1) };
+            // "whether the pair is named (0 or 1; never another)"
+            match u8_at(pair, 0) {
+                0 => {}
+                // A missing node is 14, which the call gives in its turn.
+                1 => grants.take(count, grant),
+                _ => return None,
+            }
+        }
+    }
+    Some(grants)
 }
 
 /// These numbers, "the rest 0".
@@ -239,6 +266,8 @@ fn ending(answer: Answer) -> Given {
         Answer::Clash { crossings, holder, claimants: (a, b) } => {
             numbers(&[6, count(crossings), byte(holder), byte(a), byte(b)])
         }
+        Answer::Denied { crossings } => numbers(&[10, count(crossings)]),
+        Answer::Seat { seat } => numbers(&[11, byte(seat)]),
         Answer::Special { crossings, holder } => numbers(&[12, count(crossings), byte(holder)]),
         Answer::Silent => numbers(&[7]),
         Answer::Pass => numbers(&[8]),

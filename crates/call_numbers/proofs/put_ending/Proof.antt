@@ -77,6 +77,12 @@ enum-told-2 c = search needs
 put-eight-requires-8 : tie.Need-put-eight-requires-8
 put-eight-requires-8 c κs = search needs
 
+enum-told-3 : tie.Need-enum-told-3
+enum-told-3 c = search needs
+
+put-eight-requires-9 : tie.Need-put-eight-requires-9
+put-eight-requires-9 c κs = search needs
+
 returns : tie.Need-returns
 returns c = rw (c .before .before .before .e .given .1) (c .put-eight .ensures)
 
@@ -100,6 +106,9 @@ returns-7 c = rw (c .before .before .before .e6 .given .1) (c .put-eight7 .ensur
 
 returns-8 : tie.Need-returns-8
 returns-8 c = rw (c .before .before .enum-told2 .given .1) (c .put-eight8 .ensures)
+
+returns-9 : tie.Need-returns-9
+returns-9 c = rw (c .before .before .enum-told3 .given .1) (c .put-eight9 .ensures)
 
 pub put-ending-spec : {M : Type 1} → statement M
 put-ending-spec =
@@ -130,6 +139,8 @@ put-ending-spec =
     put-eight-requires-7
     enum-told-2
     put-eight-requires-8
+    enum-told-3
+    put-eight-requires-9
     returns
     returns-2
     returns-3
@@ -137,4 +148,5 @@ put-ending-spec =
     returns-5
     returns-6
     returns-7
-    returns-8)
+    returns-8
+    returns-9)

@@ -6,6 +6,9 @@ use Rattle.call_open.proofs.size_region.Tie as tie
 table-of-requires : tie.Need-table-of-requires
 table-of-requires c κs = search needs
 
+grants-of-requires : tie.Need-grants-of-requires
+grants-of-requires c κs = search needs
+
 size-on-requires : tie.Need-size-on-requires
 size-on-requires c κs = search needs
 
@@ -20,4 +23,4 @@ returns c = (search (size-over, needs), search needs)
 
 pub size-region-spec : {M : Type 1} → statement M
 size-region-spec =
-    tie.close (tie.spec table-of-requires size-on-requires same-length same-length-2 returns)
+    tie.close (tie.spec table-of-requires grants-of-requires size-on-requires same-length same-length-2 returns)

@@ -6,6 +6,9 @@ use Rattle.call_open.proofs.write_register.Tie as tie
 table-of-requires : tie.Need-table-of-requires
 table-of-requires c κs = search needs
 
+grants-of-requires : tie.Need-grants-of-requires
+grants-of-requires c κs = search needs
+
 write-on-requires : tie.Need-write-on-requires
 write-on-requires c κs = search needs
 
@@ -20,4 +23,4 @@ returns c = (search (refusal-over, needs), search (write-over, needs))
 
 pub write-register-spec : {M : Type 1} → statement M
 write-register-spec =
-    tie.close (tie.spec table-of-requires write-on-requires same-length same-length-2 returns)
+    tie.close (tie.spec table-of-requires grants-of-requires write-on-requires same-length same-length-2 returns)

@@ -7,6 +7,7 @@ use Rattle.rack.specs.definitions.Node.{isBridge}
 use Rattle.rack.specs.definitions.First.{_when_, _or_, unless}
 use Rattle.rack.specs.definitions.Tree.{Tree}
 use Rattle.rack.specs.definitions.Refusal.{rackRefusal}
+use Rattle.seat.specs.definitions.Grants.{Grants, Acting, unknownSeat}
 use Rattle.register_header.specs.definitions.Register.{readRegister}
 use Rattle.register_image.specs.definitions.Image.{Images, Result, view, writeNode, gives}
 use Rattle.register_image.specs.definitions.Fixed.{imageRefusal}
@@ -14,7 +15,7 @@ use Rattle.register_image.specs.definitions.Sizing.{sizeRegion}
 use Rattle.claim_agent.specs.definitions.WindowEnds.{windowEnds}
 use Rattle.check_search.specs.definitions.Check.{check}
 use Rattle.file_record.specs.declared.Event.{Event}
-use Rattle.file_record.specs.definitions.Events.{eventWrong, registerWrong, writeWrong}
+use Rattle.file_record.specs.definitions.Events.{eventWrong, eventUnknown, registerWrong, writeWrong}
 use Rattle.event_run.specs.declared.Answer.{Answer}
 use Rattle.event_run.specs.declared.Answer.the-variants.{Checked}
 use Rattle.event_run.specs.definitions.Run.{eventRun}
@@ -25,10 +26,11 @@ use Rattle.call_table.specs.declared.Number.the-variants as number
 use Rattle.call_table.specs.declared.RangeReply.{RangeReply}
 use Rattle.call_table.specs.declared.RangeReply.the-variants as range-reply
 
--- 01: 'Calls apply 6 to 10 to the decoded rack node by node, as a file would meet them, then 11 to 13, and return the number'; 0
--- where the call is accepted. `own` is the number of what the call itself is given
-unfoldable pub refusalBy : Tree → Images → ℕ → ℕ
-refusalBy t im own = rackRefusal t or imageRefusal t im or own
+-- 01: 'Calls apply 6 to 10 to the decoded rack node by node, as a file would meet them, then 11 to 13, and return the number'; 02, E1: 14
+-- and 15, 'both after 13'; 0 where the call is accepted. `field` is 13 where a field that the call is given is wrong, `seat` 15 where a
+-- seat is unknown, and 0 else
+unfoldable pub refusalBy : Tree → Grants → Images → ℕ → ℕ → ℕ
+refusalBy t g im field seat = rackRefusal t or imageRefusal t im or field or 14 when (g .wrong) or seat
 
 -- a node that a call names is missing
 abbrev pub missing : Tree → ℕ → Bool
@@ -56,6 +58,14 @@ windowRefusal t i k = 13 when (missing t i || ltb 2 k)
 abbrev pub eventRefusal : Tree → Event → ℕ
 eventRefusal t e = 13 when eventWrong t e
 
+-- 15: 'a seat other than 0 without a record, in a seat event or told to a call'
+abbrev pub seatRefusal : Acting → Event → ℕ
+seatRefusal by e = 15 when (unknownSeat (by .grants) (by .seat) || eventUnknown (by .grants) e)
+
+-- the refusal of an event's run
+abbrev pub runRefusal : Tree → Acting → Images → Event → ℕ
+runRefusal t by im e = refusalBy t (by .grants) im (eventRefusal t e) (seatRefusal by e)
+
 -- 01: 'Where an answer is an enum, the promises use a definition. That definition gives this paper's number and values for each of
 -- the enum's cases': the refusal's number, 0 where there is none, and the value
 abbrev pub numberCode : Number → ℕ
@@ -66,35 +76,35 @@ abbrev pub numberValues : Number → List ℕ
 numberValues (number.Refused n) = []
 numberValues (number.Value v) = v ∷ []
 
-unfoldable pub readIn : Tree → Images → ℕ → ℕ → Number
-readIn t im i register =
-    unless (refusalBy t im (readRefusal t i register)) (number.Value (readRegister (view t im i) register)) number.Refused
+unfoldable pub readIn : Tree → Grants → Images → ℕ → ℕ → Number
+readIn t g im i register =
+    unless (refusalBy t g im (readRefusal t i register) 0) (number.Value (readRegister (view t im i) register)) number.Refused
 
-unfoldable pub sizeIn : Tree → Images → ℕ → ℕ → Number
-sizeIn t im i r = unless (refusalBy t im (regionRefusal t i r)) (number.Value (sizeRegion t im i r)) number.Refused
+unfoldable pub sizeIn : Tree → Grants → Images → ℕ → ℕ → Number
+sizeIn t g im i r = unless (refusalBy t g im (regionRefusal t i r) 0) (number.Value (sizeRegion t im i r)) number.Refused
 
 -- a refused write stores nothing
-unfoldable pub storedIn : Tree → Images → ℕ → ℕ → ℕ → ℕ → Images
-storedIn t im i register enables put =
-    unless (refusalBy t im (storeRefusal t i register enables)) (writeNode t im i register enables put) (λ n. im)
+unfoldable pub storedIn : Tree → Grants → Images → ℕ → ℕ → ℕ → ℕ → Images
+storedIn t g im i register enables put =
+    unless (refusalBy t g im (storeRefusal t i register enables) 0) (writeNode t im i register enables put) (λ n. im)
 
 -- 01: 'The view shows an empty part'
-unfoldable pub viewIn : Tree → Images → ℕ → List ℕ
-viewIn t im i = unless (refusalBy t im (viewRefusal t i)) (view t im i) (λ n. [])
+unfoldable pub viewIn : Tree → Grants → Images → ℕ → List ℕ
+viewIn t g im i = unless (refusalBy t g im (viewRefusal t i) 0) (view t im i) (λ n. [])
 
 -- both ends of a window or region
-unfoldable pub endsIn : Tree → Images → ℕ → ℕ → RangeReply
-endsIn t im i k = unless (refusalBy t im (windowRefusal t i k)) (range-reply.Range (windowEnds t im i k)) range-reply.Refused
+unfoldable pub endsIn : Tree → Grants → Images → ℕ → ℕ → RangeReply
+endsIn t g im i k = unless (refusalBy t g im (windowRefusal t i k) 0) (range-reply.Range (windowEnds t im i k)) range-reply.Refused
 
 -- the answer to an event that was run, with the images that it leaves
 abbrev pub ran : Result Answer → Result Reply
 ran a = gives (reply.Answered (a .answer)) (a .after)
 
--- an event, the check too; a refusal leaves both images untouched
-unfoldable pub runIn : Tree → Images → Event → Result Reply
-runIn t im e =
-    unless (refusalBy t im (eventRefusal t e)) (ran (eventRun t im e)) (λ n. gives (reply.Refused n) im)
+-- an event of the seat that acts, the check too; a refusal leaves both images untouched
+unfoldable pub runIn : Tree → Acting → Images → Event → Result Reply
+runIn t by im e =
+    unless (runRefusal t by im e) (ran (eventRun t by im e)) (λ n. gives (reply.Refused n) im)
 
 -- the check alone: 'A check changes no register'
-unfoldable pub checkIn : Tree → Images → Reply
-checkIn t im = unless (refusalBy t im 0) (reply.Answered (Checked (check t im))) reply.Refused
+unfoldable pub checkIn : Tree → Grants → Images → Reply
+checkIn t g im = unless (refusalBy t g im 0 0) (reply.Answered (Checked (check t im))) reply.Refused

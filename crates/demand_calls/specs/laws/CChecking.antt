@@ -1,6 +1,6 @@
 -- Demand 3 over the call `rack_check` from C.
 use mathlib.Core.Path.{_≡_, refl, sym, ap, _∙_}
-use mathlib.Core.Bool.{cond}
+use mathlib.Core.Bool.{false, cond}
 use mathlib.Core.List.{List, [], _∷_}
 use Prim.Native.Nat.{ℕ}
 use native.Mathlib.Omega.{arith}
@@ -57,27 +57,29 @@ answers {r} untouched ne =
 module _ (b : List ℕ) (im : Images) where
   -- what an accepted check hands back
   checked : rackCheck b im .code ≡ 0
-      → (rackAlone b .refusal ≡ 0) × (imageRefusal (rackAlone b .tree) im ≡ 0)
+      → (rackAlone b .refusal ≡ 0) × (imageRefusal (rackAlone b .tree) im ≡ 0) × (rackAlone b .grants .wrong ≡ false)
       × (rackCheck b im .numbers ≡ numbersOf (Checked (check (rackAlone b .tree) im)))
   checked c =
       let s = check-refuses b im .accepted c in
-      (s .0, s .2, ap (λ (r : Called). r .numbers) (check-refuses b im .accepts (s .0) refl (s .2) refl .0))
+      (s .0, s .2, s .4, ap (λ (r : Called). r .numbers) (check-refuses b im .accepts (s .0) refl (s .2) refl (s .4) refl .0))
 
   -- 'an accepted check passes exactly when the count of claimants is at most one on every bus, ..': its first number is 8
   pub c-check-passed : number (rackCheck b im) ≡ 8
-      → (rackAlone b .refusal ≡ 0) × (imageRefusal (rackAlone b .tree) im ≡ 0) × OneClaimant (rackAlone b .tree) im
+      → (rackAlone b .refusal ≡ 0) × (imageRefusal (rackAlone b .tree) im ≡ 0) × (rackAlone b .grants .wrong ≡ false)
+      × OneClaimant (rackAlone b .tree) im
   c-check-passed n =
       let s = checked (answers (check-refuses b im .untouched) (λ z. omega arith)) in (
         s .0,
         s .1,
+        s .2,
         passed (rackAlone b .tree) im
-            (told-pass (check (rackAlone b .tree) im) (sym (ap (λ (l : List ℕ). getD l 0 0) (s .2)) ∙ n)),
+            (told-pass (check (rackAlone b .tree) im) (sym (ap (λ (l : List ℕ). getD l 0 0) (s .3)) ∙ n)),
       )
 
-  pub c-check-passes : rackAlone b .refusal ≡ 0 → imageRefusal (rackAlone b .tree) im ≡ 0
+  pub c-check-passes : rackAlone b .refusal ≡ 0 → imageRefusal (rackAlone b .tree) im ≡ 0 → rackAlone b .grants .wrong ≡ false
       → OneClaimant (rackAlone b .tree) im → rackCheck b im ≡ record { code = 0; numbers = eight 8 []; after = im }
-  c-check-passes z y o =
-      check-refuses b im .accepts z refl y refl .0
+  c-check-passes z y w o =
+      check-refuses b im .accepts z refl y refl w refl .0
       ∙ ap (λ (r : Report). repliedCall (gives (Answered (Checked r)) im)) (passes (rackAlone b .tree) im o)
 
   -- 'If it does not pass, it shows the clash, driver and two claimants that document 01 names first'
@@ -88,13 +90,13 @@ module _ (b : List ℕ) (im : Images) where
       let m : number (rackCheck b im) ≡ 9 = ap (λ (l : List ℕ). getD l 0 0) n in
       let s = checked (answers (check-refuses b im .untouched) (λ z. omega arith)) in
       faulted (rackAlone b .tree) im bus space a driver x y
-      (told-fault bus space a driver x y (check (rackAlone b .tree) im) (sym (s .2) ∙ n))
+      (told-fault bus space a driver x y (check (rackAlone b .tree) im) (sym (s .3) ∙ n))
 
   -- and it shows one whenever it is accepted and does not pass
   pub c-check-shows : rackCheck b im .code ≡ 0 → (number (rackCheck b im) ≡ 8 → ⊥)
       → (bus : ℕ) × (space : Space) × (a : ℕ) × (driver : ℕ) × (x : ℕ) × (y : ℕ)
       × (rackCheck b im .numbers ≡ eight 9 (bus ∷ spaceNumber space ∷ a ∷ driver ∷ x ∷ y ∷ []))
-  c-check-shows c ne = shows (check (rackAlone b .tree) im) (checked c .2)
+  c-check-shows c ne = shows (check (rackAlone b .tree) im) (checked c .3)
     where
       shows : (r : Report) → rackCheck b im .numbers ≡ numbersOf (Checked r)
           → (bus : ℕ) × (space : Space) × (a : ℕ) × (driver : ℕ) × (x : ℕ) × (y : ℕ)

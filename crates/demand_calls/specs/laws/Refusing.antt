@@ -8,6 +8,7 @@ use Rattle.rack.specs.definitions.First.{_when_, unless}
 use Rattle.rack.specs.laws.FirstLaws.{when-not, or-this, or-next, or-none, unless-number, unless-none}
 use Rattle.rack.specs.definitions.Tree.{Tree}
 use Rattle.rack.specs.definitions.Refusal.{rackRefusal}
+use Rattle.seat.specs.definitions.Grants.{Grants, Acting}
 use Rattle.register_image.specs.definitions.Image.{Images, view, writeNode, gives}
 use Rattle.register_image.specs.definitions.Fixed.{imageRefusal}
 use Rattle.file_record.specs.declared.Event.{Event}
@@ -16,36 +17,50 @@ use Rattle.claim_agent.specs.definitions.WindowEnds.{windowEnds}
 use Rattle.call_table.specs.declared.Reply.the-variants as reply
 use Rattle.call_table.specs.declared.Number.the-variants as number
 use Rattle.call_table.specs.declared.RangeReply.the-variants as range-reply
-use Rattle.call_table.specs.definitions.Call.{refusalBy, readRefusal, storeRefusal, viewRefusal, regionRefusal, windowRefusal, eventRefusal, numberCode, numberValues, readIn, sizeIn, storedIn, viewIn, endsIn, ran, runIn}
+use Rattle.call_table.specs.definitions.Call.{refusalBy, readRefusal, storeRefusal, viewRefusal, regionRefusal, windowRefusal, eventRefusal, seatRefusal, runRefusal, numberCode, numberValues, readIn, sizeIn, storedIn, viewIn, endsIn, ran, runIn}
 use Rattle.register_header.specs.definitions.Register.{readRegister}
 
-module _ (t : Tree) (im : Images) (own : ℕ) where
+module _ (t : Tree) (g : Grants) (im : Images) (field seat : ℕ) where
   -- 6 to 10 of the rack come first
-  pub by-rack : (rackRefusal t ≡ 0 → ⊥) → refusalBy t im own ≡ rackRefusal t
+  pub by-rack : (rackRefusal t ≡ 0 → ⊥) → refusalBy t g im field seat ≡ rackRefusal t
   unfolding refusalBy
   by-rack ne = or-this _ _ ne
 
   -- then 11 and 12 of the images
-  pub by-image : rackRefusal t ≡ 0 → (imageRefusal t im ≡ 0 → ⊥) → refusalBy t im own ≡ imageRefusal t im
+  pub by-image : rackRefusal t ≡ 0 → (imageRefusal t im ≡ 0 → ⊥) → refusalBy t g im field seat ≡ imageRefusal t im
   unfolding refusalBy
   by-image z ne = or-next _ _ z ∙ or-this _ _ ne
 
-  -- then the number of what the call names
-  pub by-own : rackRefusal t ≡ 0 → imageRefusal t im ≡ 0 → refusalBy t im own ≡ own
-  unfolding refusalBy
-  by-own z y = or-next _ _ z ∙ or-next _ _ y
+  module _ (z : rackRefusal t ≡ 0) (y : imageRefusal t im ≡ 0) where
+    -- then 13 of what the call is given
+    pub by-field : (field ≡ 0 → ⊥) → refusalBy t g im field seat ≡ field
+    unfolding refusalBy
+    by-field ne = or-next _ _ z ∙ or-next _ _ y ∙ or-this _ _ ne
 
-  -- a call is accepted where none of them applies
-  pub accepts : rackRefusal t ≡ 0 → imageRefusal t im ≡ 0 → own ≡ 0 → refusalBy t im own ≡ 0
-  accepts z y x = by-own z y ∙ x
+    -- then 14 of the seat records
+    pub by-grants : field ≡ 0 → g .wrong ≡ true → refusalBy t g im field seat ≡ 14
+    unfolding refusalBy
+    by-grants x w = or-next _ _ z ∙ or-next _ _ y ∙ or-next _ _ x ∙ rw w
+
+    -- then 15 of a seat
+    pub by-seat : field ≡ 0 → g .wrong ≡ false → refusalBy t g im field seat ≡ seat
+    unfolding refusalBy
+    by-seat x w = or-next _ _ z ∙ or-next _ _ y ∙ or-next _ _ x ∙ rw w
+
+    -- a call is accepted where none of them applies
+    pub accepts : field ≡ 0 → g .wrong ≡ false → seat ≡ 0 → refusalBy t g im field seat ≡ 0
+    accepts x w v = by-seat x w ∙ v
 
   -- and only there
-  pub accepted : refusalBy t im own ≡ 0 → (rackRefusal t ≡ 0) × (imageRefusal t im ≡ 0) × (own ≡ 0)
+  pub accepted : refusalBy t g im field seat ≡ 0
+      → (rackRefusal t ≡ 0) × (imageRefusal t im ≡ 0) × (field ≡ 0) × (g .wrong ≡ false) × (seat ≡ 0)
   unfolding refusalBy
   accepted e =
       let s = or-none (rackRefusal t) _ e in
-      let r = or-none (imageRefusal t im) own (s .1) in
-      (s .0, r .0, r .1)
+      let r = or-none (imageRefusal t im) _ (s .1) in
+      let q = or-none field _ (r .1) in
+      let w = or-none (14 when (g .wrong)) seat (q .1) in
+      (s .0, r .0, q .0, when-not 14 (g .wrong) (λ z. omega arith) (w .0), w .1)
 
 -- that number is 13 exactly where its test holds
 pub field-wrong : {b : Bool} → b ≡ true → 13 when b ≡ 13
@@ -66,63 +81,68 @@ pub number-accepted : (refusal value : ℕ) → refusal ≡ 0
     × (numberValues (unless refusal (number.Value value) number.Refused) ≡ value ∷ [])
 number-accepted refusal value z = rw (unless-none (number.Value value) number.Refused z) (refl, refl)
 
-module _ (t : Tree) (im : Images) where
+module _ (t : Tree) (g : Grants) (im : Images) where
   -- a register read: the refusal's number, or the dword
-  pub read-refused : (i register : ℕ) → (refusalBy t im (readRefusal t i register) ≡ 0 → ⊥)
-      → readIn t im i register ≡ number.Refused (refusalBy t im (readRefusal t i register))
+  pub read-refused : (i register : ℕ) → (refusalBy t g im (readRefusal t i register) 0 ≡ 0 → ⊥)
+      → readIn t g im i register ≡ number.Refused (refusalBy t g im (readRefusal t i register) 0)
   unfolding readIn
   read-refused i register ne = unless-number _ _ ne
 
-  pub read-accepted : (i register : ℕ) → refusalBy t im (readRefusal t i register) ≡ 0
-      → readIn t im i register ≡ number.Value (readRegister (view t im i) register)
+  pub read-accepted : (i register : ℕ) → refusalBy t g im (readRefusal t i register) 0 ≡ 0
+      → readIn t g im i register ≡ number.Value (readRegister (view t im i) register)
   unfolding readIn
   read-accepted i register z = unless-none _ _ z
 
   -- sizing: the refusal's number; what an accepted one gives is in `Sizing`
-  pub size-refused : (i r : ℕ) → (refusalBy t im (regionRefusal t i r) ≡ 0 → ⊥)
-      → sizeIn t im i r ≡ number.Refused (refusalBy t im (regionRefusal t i r))
+  pub size-refused : (i r : ℕ) → (refusalBy t g im (regionRefusal t i r) 0 ≡ 0 → ⊥)
+      → sizeIn t g im i r ≡ number.Refused (refusalBy t g im (regionRefusal t i r) 0)
   unfolding sizeIn
   size-refused i r ne = unless-number _ _ ne
 
   -- both ends of a window or region: the refusal's number, or what the registers give
-  pub ends-refused : (i k : ℕ) → (refusalBy t im (windowRefusal t i k) ≡ 0 → ⊥)
-      → endsIn t im i k ≡ range-reply.Refused (refusalBy t im (windowRefusal t i k))
+  pub ends-refused : (i k : ℕ) → (refusalBy t g im (windowRefusal t i k) 0 ≡ 0 → ⊥)
+      → endsIn t g im i k ≡ range-reply.Refused (refusalBy t g im (windowRefusal t i k) 0)
   unfolding endsIn
   ends-refused i k ne = unless-number _ _ ne
 
-  pub ends-accepted : (i k : ℕ) → refusalBy t im (windowRefusal t i k) ≡ 0 → endsIn t im i k ≡ range-reply.Range (windowEnds t im i k)
+  pub ends-accepted : (i k : ℕ) → refusalBy t g im (windowRefusal t i k) 0 ≡ 0 → endsIn t g im i k ≡ range-reply.Range (windowEnds t im i k)
   unfolding endsIn
   ends-accepted i k z = unless-none _ _ z
 
   -- a refused register write stores nothing
-  pub write-untouched : (i register enables put : ℕ) → (refusalBy t im (storeRefusal t i register enables) ≡ 0 → ⊥)
-      → storedIn t im i register enables put ≡ im
+  pub write-untouched : (i register enables put : ℕ) → (refusalBy t g im (storeRefusal t i register enables) 0 ≡ 0 → ⊥)
+      → storedIn t g im i register enables put ≡ im
   unfolding storedIn
   write-untouched i register enables put ne = unless-number _ _ ne
 
   -- an accepted one does
-  pub write-stores : (i register enables put : ℕ) → refusalBy t im (storeRefusal t i register enables) ≡ 0
-      → storedIn t im i register enables put ≡ writeNode t im i register enables put
+  pub write-stores : (i register enables put : ℕ) → refusalBy t g im (storeRefusal t i register enables) 0 ≡ 0
+      → storedIn t g im i register enables put ≡ writeNode t im i register enables put
   unfolding storedIn
   write-stores i register enables put z = unless-none _ _ z
 
   -- a refused view is empty
-  pub view-empty : (i : ℕ) → (refusalBy t im (viewRefusal t i) ≡ 0 → ⊥) → viewIn t im i ≡ []
+  pub view-empty : (i : ℕ) → (refusalBy t g im (viewRefusal t i) 0 ≡ 0 → ⊥) → viewIn t g im i ≡ []
   unfolding viewIn
   view-empty i ne = unless-number _ _ ne
 
   -- an accepted one shows the node's part
-  pub view-shows : (i : ℕ) → refusalBy t im (viewRefusal t i) ≡ 0 → viewIn t im i ≡ view t im i
+  pub view-shows : (i : ℕ) → refusalBy t g im (viewRefusal t i) 0 ≡ 0 → viewIn t g im i ≡ view t im i
   unfolding viewIn
   view-shows i z = unless-none _ _ z
 
+module _ (t : Tree) (by : Acting) (im : Images) where
   -- a refused event changes nothing and answers the refusal's number
-  pub event-untouched : (e : Event) → (refusalBy t im (eventRefusal t e) ≡ 0 → ⊥)
-      → runIn t im e ≡ gives (reply.Refused (refusalBy t im (eventRefusal t e))) im
+  pub event-untouched : (e : Event) → (runRefusal t by im e ≡ 0 → ⊥) → runIn t by im e ≡ gives (reply.Refused (runRefusal t by im e)) im
   unfolding runIn
   event-untouched e ne = unless-number _ _ ne
 
   -- an accepted one is run
-  pub event-runs : (e : Event) → refusalBy t im (eventRefusal t e) ≡ 0 → runIn t im e ≡ ran (eventRun t im e)
+  pub event-runs : (e : Event) → runRefusal t by im e ≡ 0 → runIn t by im e ≡ ran (eventRun t by im e)
   unfolding runIn
   event-runs e z = unless-none _ _ z
+
+  -- what an accepted one has
+  pub event-accepted : (e : Event) → runRefusal t by im e ≡ 0
+      → (rackRefusal t ≡ 0) × (imageRefusal t im ≡ 0) × (eventRefusal t e ≡ 0) × (by .grants .wrong ≡ false) × (seatRefusal by e ≡ 0)
+  event-accepted e z = accepted t (by .grants) im (eventRefusal t e) (seatRefusal by e) z

@@ -11,6 +11,7 @@ use Rattle.rack.specs.laws.Bools.{tested}
 use Rattle.rack.specs.definitions.Tree.{Tree}
 use Rattle.rack.specs.definitions.Stored.{Stored}
 use Rattle.rack.specs.definitions.Refusal.{rackRefusal}
+use Rattle.seat.specs.definitions.Grants.{Acting}
 use Rattle.register_image.specs.definitions.Image.{Images, Result}
 use Rattle.claim_agent.specs.declared.Space.the-variants as space
 use Rattle.route_bus.specs.declared.Access.{Access}
@@ -18,29 +19,26 @@ use Rattle.route_bus.specs.declared.Route.{Route}
 use Rattle.route.specs.definitions.Route.{drives, configure, access}
 use Rattle.route_laws.specs.definitions.Ends.{isSilent}
 use Rattle.route_laws.specs.laws.Silent.{configure-driven, host-driven, access-driven}
-use Rattle.check_search.specs.declared.Report.{Report}
-use Rattle.check_search.specs.declared.Report.the-variants.{Pass, Fault}
 use Rattle.check_search.specs.definitions.Check.{check}
 use Rattle.demand_passed.specs.definitions.Way.{Initiator}
 use Rattle.file_record.specs.declared.Event.{Event}
-use Rattle.file_record.specs.declared.Event.the-variants.{Write, Read, Memory, Io, Check}
+use Rattle.file_record.specs.declared.Event.the-variants.{Write, Read, Memory, Io, Check, Seat}
 use Rattle.file_record.specs.definitions.Events.{eventWrong}
-use Rattle.event_run.specs.declared.Answer.the-variants.{Checked}
 use Rattle.event_run.specs.definitions.Answers.{answerNumber}
 use Rattle.event_run.specs.definitions.Run.{configuration, addressed, ended, eventRun}
-use Rattle.call_table.specs.definitions.Call.{refusalBy, eventRefusal, runIn}
+use Rattle.call_table.specs.definitions.Call.{eventRefusal, runRefusal, runIn}
 use Rattle.demand_calls.specs.definitions.Events.{replyNumber, MayNotDrive}
-use Rattle.demand_calls.specs.laws.Numbered.{ended-number}
-use Rattle.demand_calls.specs.laws.Refusing.{accepted, field-right, event-untouched, event-runs}
+use Rattle.demand_calls.specs.laws.Numbered.{ended-number, checked-number}
+use Rattle.demand_calls.specs.laws.Refusing.{field-right, event-untouched, event-runs, event-accepted}
 use Rattle.demand_calls.specs.laws.Checking.{initiator}
 
-module _ (t : Tree) (ok : rackRefusal t ≡ 0) (st : Stored t) (im : Images) where
+module _ (t : Tree) (by : Acting) (ok : rackRefusal t ≡ 0) (st : Stored t) (im : Images) where
   -- of a route that is driven no answer is silent
-  driven-not : (x : Access) (o : Result Route) → isSilent (o .answer .end) ≡ false → answerNumber (ended t x o .answer) ≡ 7 → ⊥
+  driven-not : (x : Access) (o : Result Route) → isSilent (o .answer .end) ≡ false → answerNumber (ended t by x o .answer) ≡ 7 → ⊥
   driven-not x o d n =
-      eqb-false _ 7 d (ended-number t (o .after) x (o .answer .crossings) (o .answer .end) n (omega arith))
+      eqb-false _ 7 d (ended-number t by (o .after) x (o .answer .crossings) (o .answer .end) n (omega arith) (λ z. omega arith))
 
-  started-silent : (x : Access) (i : ℕ) → Initiator t i → answerNumber (ended t x (access t im x i) .answer) ≡ 7
+  started-silent : (x : Access) (i : ℕ) → Initiator t i → answerNumber (ended t by x (access t im x i) .answer) ≡ 7
       → (i < t .count) × (drives t im i ≡ false)
   started-silent x i (inl e) n =
       absurd
@@ -48,7 +46,7 @@ module _ (t : Tree) (ok : rackRefusal t ≡ 0) (st : Stored t) (im : Images) whe
   started-silent x i (inr d) n =
       tested (drives t im i) (λ q. absurd (driven-not x (access t im x i) (access-driven t ok x st im i (d .0) q) n)) (λ q. (d .0, q))
 
-  run-silent : (e : Event) → eventWrong t e ≡ false → answerNumber (eventRun t im e .answer) ≡ 7 → MayNotDrive t im e
+  run-silent : (e : Event) → eventWrong t e ≡ false → answerNumber (eventRun t by im e .answer) ≡ 7 → MayNotDrive t im e
   unfolding eventRun eventWrong
   run-silent (Write bus devfn register enables put) w n =
       let x = configuration true bus devfn register enables put in
@@ -58,22 +56,19 @@ module _ (t : Tree) (ok : rackRefusal t ≡ 0) (st : Stored t) (im : Images) whe
   run-silent (Memory i direction a) w n =
       started-silent (addressed space.Memory direction a) i (initiator t i direction w) n
   run-silent (Io i direction a) w n = started-silent (addressed space.Io direction a) i (initiator t i direction w) n
-  run-silent Check w n = report (check t im) n
-    where
-      report : (r : Report) → answerNumber (Checked r) ≡ 7 → ⊥
-      report Pass n = omega arith
-      report (Fault b s v d x y) n = omega arith
+  run-silent (Seat seat) w n = let z : _≡_ {A = ℕ} 11 7 = n in omega arith
+  run-silent Check w n = checked-number (check t im) n (λ z. omega arith) (λ z. omega arith)
 
-module _ (t : Tree) (stored : rackRefusal t ≡ 0 → Stored t) (im : Images) where
+module _ (t : Tree) (by : Acting) (stored : rackRefusal t ≡ 0 → Stored t) (im : Images) where
   -- 7 is the number of a silent answer
-  pub event-silent : (e : Event) → replyNumber (runIn t im e .answer) ≡ 7 → MayNotDrive t im e
+  pub event-silent : (e : Event) → replyNumber (runIn t by im e .answer) ≡ 7 → MayNotDrive t im e
   event-silent e n =
-      tested (eqb (refusalBy t im (eventRefusal t e)) 0)
+      tested (eqb (runRefusal t by im e) 0)
       (λ q.
-      let z = eqb-true (refusalBy t im (eventRefusal t e)) 0 q in
-      let a = accepted t im (eventRefusal t e) z in
-      run-silent t (a .0) (stored (a .0)) im e (field-right (a .2)) (rw (event-runs t im e z) at n))
+      let z = eqb-true (runRefusal t by im e) 0 q in
+      let a = event-accepted t by im e z in
+      run-silent t by (a .0) (stored (a .0)) im e (field-right (a .2)) (rw (event-runs t by im e z) at n))
       (λ q.
-      let ne = eqb-false (refusalBy t im (eventRefusal t e)) 0 q in
-      let z : _≡_ {A = ℕ} 0 7 = rw (event-untouched t im e ne) at n in
+      let ne = eqb-false (runRefusal t by im e) 0 q in
+      let z : _≡_ {A = ℕ} 0 7 = rw (event-untouched t by im e ne) at n in
       absurd (omega arith))

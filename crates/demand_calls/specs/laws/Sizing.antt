@@ -10,19 +10,20 @@ use Rattle.rack.specs.laws.Bools.{neither}
 use Rattle.rack.specs.laws.FirstLaws.{unless-none}
 use Rattle.rack.specs.definitions.Node.{isBridge, regionIn}
 use Rattle.rack.specs.definitions.Grow.{tree}
+use Rattle.seat.specs.definitions.Grants.{grants}
 use Rattle.register_image.specs.definitions.Image.{Images}
 use Rattle.register_laws.specs.laws.Sizes.{accepted-size}
 use Rattle.call_table.specs.declared.Number.the-variants as number
 use Rattle.call_table.specs.definitions.Call.{refusalBy, regionRefusal, missing, sizeIn}
 use Rattle.demand_calls.specs.laws.Refusing.{accepted, field-right}
 
-pub size-accepted : (rack : Rack) (im : Images) (i r : ℕ) → refusalBy (tree rack) im (regionRefusal (tree rack) i r) ≡ 0
-    → sizeIn (tree rack) im i r
+pub size-accepted : (rack : Rack) (im : Images) (i r : ℕ) → refusalBy (tree rack) (grants rack) im (regionRefusal (tree rack) i r) 0 ≡ 0
+    → sizeIn (tree rack) (grants rack) im i r
     ≡ number.Value (cond (eqb (regionIn (tree rack .node i) r .kind) 0) 0 (2 ^ (regionIn (tree rack .node i) r .exponent)))
 unfolding sizeIn
 size-accepted rack im i r z =
     let t = tree rack in
-    let a = accepted t im (regionRefusal t i r) z in
+    let a = accepted t (grants rack) im (regionRefusal t i r) 0 z in
     let s = neither (missing t i) _ (field-right (a .2)) in
     let k = neither (isBridge (t .node i .kind)) (ltb 2 r) (s .1) in
     unless-none _ _ z

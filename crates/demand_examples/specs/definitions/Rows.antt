@@ -1,4 +1,4 @@
--- Document 01, 'Windows and racks to prove', and the same of older bridges and special cycles: one table of the definitions, and one
+-- Document 01, 'Windows and racks to prove', and the same of older bridges, special cycles and seats: one table of the definitions, and one
 -- theorem over it.
 use mathlib.Core.Bool.{Bool, true, false, not, _&&_, cond}
 use mathlib.Core.List.{List, [], _∷_, _++_}
@@ -10,6 +10,7 @@ use Rattle.rack.specs.declared.Kind.the-variants.{Device, Bridge, OlderBridge}
 use Rattle.rack.specs.declared.Region.{Region}
 use Rattle.rack.specs.declared.Node.{Node}
 use Rattle.rack.specs.definitions.Node.{isBridge, noRegion, noNode}
+use Rattle.seat.specs.definitions.Grants.{Grants, noGrants, acting, granting}
 use Rattle.register_header.specs.definitions.Options.{optionsOf}
 use Rattle.register_header.specs.definitions.PciRegs.{COMMAND, STATUS, BASE-ADDRESS}
 use Rattle.register_header.specs.definitions.Register.{readRegister, writeRegister}
@@ -35,7 +36,7 @@ use Rattle.claim_window.specs.definitions.Window.{windowsOf}
 use Rattle.claim_window.specs.definitions.Inside.{inMemory, inPrefetchable, insideIo}
 use Prim.Native.String.{String}
 use Rattle.file_record.specs.declared.Event.{Event}
-use Rattle.file_record.specs.declared.Event.the-variants.{Write, Read}
+use Rattle.file_record.specs.declared.Event.the-variants.{Write, Read, Seat}
 use Rattle.event_run.specs.definitions.Run.{eventRun}
 use Rattle.print_file.specs.definitions.Output.{answerLine}
 use Rattle.rack.specs.definitions.Refusal.{rackRefusal}
@@ -73,6 +74,8 @@ pub data Row : Type 0 where
   clears : Kind → ℕ → ℕ → ℕ → Row
   -- the nodes of a rack without host memory; an event, and the line that is printed for it as event 1
   ends : List Fitted → Event → String → Row
+  -- a seat and its mask at node 0; the same of an event of that seat
+  acts : ℕ → ℕ → List Fitted → Event → String → Row
   -- the nodes of a rack without host memory, which is accepted; what its check says, and the line that is printed as event 1
   checks : List Fitted → Report → String → Row
 
@@ -174,6 +177,10 @@ withStatus n status = set (set (resetPart n) STATUS (status % 256)) (STATUS + 1)
 abbrev pub statusAfter : Node → ℕ → ℕ → ℕ
 statusAfter n status put = readRegister (writeRegister n (withStatus n status) COMMAND 12 (put * 65536)) COMMAND / 65536
 
+-- one seat record, for node 0
+abbrev pub grantedAt0 : ℕ → ℕ → Grants
+grantedAt0 seat mask = granting noGrants (record { seat = seat; node = 0; mask = mask })
+
 abbrev pub holds : Row → Bool
 holds (sizes kind e seen size) =
     eqb (readBack (device kind e) (resetPart (device kind e)) BASE-ADDRESS) seen
@@ -183,7 +190,9 @@ holds (none-in k w ps) = isEmpty (windowIn (windows k ps) (number w))
 holds (reads k register seen) = eqb (readBack (node k noRegion) (resetPart (node k noRegion)) register) seen
 holds (crosses ps bus) = asType1 (put (node Bridge noRegion) ps) bus
 holds (clears k status put after) = eqb (statusAfter (node k noRegion) status put) after
-holds (ends fs e text) = sameValues (answerLine 1 (eventRun (rackOf fs) (imagesOf fs) e .answer)) (codesOf text)
+holds (ends fs e text) = sameValues (answerLine 1 (eventRun (rackOf fs) (acting noGrants 0) (imagesOf fs) e .answer)) (codesOf text)
+holds (acts seat mask fs e text) =
+    sameValues (answerLine 1 (eventRun (rackOf fs) (acting (grantedAt0 seat mask) seat) (imagesOf fs) e .answer)) (codesOf text)
 holds (checks fs r text) =
     eqb (rackRefusal (rackOf fs)) 0 && eqb (imageRefusal (rackOf fs) (imagesOf fs)) 0
     && sameReport (check (rackOf fs) (imagesOf fs)) r && sameValues (reportLine 1 (check (rackOf fs) (imagesOf fs))) (codesOf text)
@@ -206,6 +215,10 @@ three = two ++ (fitted (nodeOn Device 0 1 noRegion) [] ∷ [])
 -- a bridge on the root bus with secondary 5 and subordinate 6
 abbrev pub carrying : List Fitted
 carrying = fitted (nodeOn Bridge host 0 noRegion) (byte 0x19 0x05 ∷ byte 0x1a 0x06 ∷ []) ∷ []
+
+-- and a card below it
+abbrev pub below : List Fitted
+below = carrying ++ (fitted (nodeOn Device 0 0 noRegion) [] ∷ [])
 
 -- the table, each row with its item's number
 abbrev pub rows : List Row
@@ -266,4 +279,15 @@ rows =
     ∷ reads Bridge 0x30 0xffffffff ∷ reads OlderBridge 0x30 0x00000000
     ∷ reads Bridge 0x3c 0x003f00ff ∷ reads OlderBridge 0x3c 0x002f00ff
     ∷ clears OlderBridge 0xa000 0x2000 0x8000  -- 9, of an older bridge
+    -- 02, E1: 'bit i for dword i': bit 6 is that of 18h
+    ∷ acts 3 0x0040 carrying (Write 0 0 0x18 0xf 0) "1 stored 0\n" ∷ acts 3 0x0040 carrying (Write 0 0 0x1c 0xf 0) "1 denied 0\n"
+    -- no byte enabled is denied too; 'Reads, and writes to 40h and above, are never denied'
+    ∷ acts 3 0 carrying (Write 0 0 0x3c 0 0) "1 denied 0\n" ∷ acts 3 0 carrying (Write 0 0 0x40 0xf 0) "1 stored 0\n"
+    ∷ acts 3 0 carrying (Read 0 0 0x18) "1 data 0 00060500\n"
+    -- 'seat 0, which may write all'; no record for the node is an empty grant
+    ∷ acts 0 0 carrying (Write 0 0 0x18 0xf 0) "1 stored 0\n" ∷ acts 3 0xffff below (Write 5 0 4 0xf 0) "1 denied 1\n"
+    -- what reaches no node is not denied
+    ∷ acts 3 0 carrying (Write 5 0 4 0xf 0) "1 unclaimed 1 0 done\n" ∷ acts 3 0 carrying (Write 5 0xff 0 0xf 0) "1 special 1 0\n"
+    -- 'A seat event prints `seat` and its number'
+    ∷ acts 3 0 carrying (Seat 0) "1 seat 0\n"
     ∷ []

@@ -2,6 +2,7 @@
 use mathlib.Core.Path.{_≡_, refl}
 use mathlib.Core.Bool.{true}
 use Rattle.rack.specs.definitions.Count.{countOf, someFrom}
+use Rattle.seat.specs.definitions.Grants.{mayWrite}
 use Rattle.register_header.specs.definitions.Mask.{writeMask, clearMask, regionWrite, regionReset, resetByte}
 use Rattle.register_header.specs.definitions.Register.{readRegister, writeByte, writeDword, writeRegister, setStatus}
 use Rattle.register_header.specs.definitions.Sizing.{readBack, sizePart}
@@ -21,7 +22,7 @@ use Rattle.route_bus.specs.definitions.End.{ifUnclaimed}
 use Rattle.route_bus.specs.definitions.Look.{masterAbort, unclaimed, owned, claimed, target, selects, direct, look}
 use Rattle.route_bus.specs.definitions.Cross.{otherBus, turnsType0, lastOutcome, passed, crossed}
 use Rattle.route.specs.definitions.Route.{busStep, configure}
-use Rattle.event_run.specs.definitions.Run.{endedAt, eventRun}
+use Rattle.event_run.specs.definitions.Run.{registerOf, reached, endedAt, eventRun}
 use Rattle.check_search.specs.declared.Report.the-variants.{Pass, Fault}
 use Rattle.check_search.specs.definitions.Check.{firstIn, shown, atValue, check}
 use Rattle.check_search.specs.laws.Stretch.{untilAll}
@@ -51,5 +52,5 @@ both-images = (refl, refl)
 
 -- every row holds
 pub table : all rows ≡ true
-unfolding eventRun endedAt secondaryClaims configure busStep direct selects target nextFrom unclaimed masterAbort onNode onPart setStatus crossed passed ifUnclaimed lastOutcome otherBus endingFields reportFields hexOf decimalOf decimalUpTo codesOf windowIn resetFrom resetByte regionReset regionWrite writeMask clearMask readRegister writeByte writeDword writeRegister readBack sizePart windowsOf insideIo nodesFrom nodePart view bridgeOf agentOf primaryClaims hostClaims claimsOf claimantsIn owned claimed look turnsType0 treeWith grown countOf spaced
+unfolding eventRun registerOf reached mayWrite endedAt secondaryClaims configure busStep direct selects target nextFrom unclaimed masterAbort onNode onPart setStatus crossed passed ifUnclaimed lastOutcome otherBus endingFields reportFields hexOf decimalOf decimalUpTo codesOf windowIn resetFrom resetByte regionReset regionWrite writeMask clearMask readRegister writeByte writeDword writeRegister readBack sizePart windowsOf insideIo nodesFrom nodePart view bridgeOf agentOf primaryClaims hostClaims claimsOf claimantsIn owned claimed look turnsType0 treeWith grown countOf spaced
 table = rw (found .0, found .1, racks .0, both-images .0, racks .1, both-images .1) refl

@@ -92,7 +92,7 @@ module _ (t : Tree) (bus devfn : ℕ) where
       }
 
   -- a target that is found is that node
-  target-selected : (target t bus devfn ≡ 255 → ⊥) → Selected t bus devfn (target t bus devfn)
+  pub target-selected : (target t bus devfn ≡ 255 → ⊥) → Selected t bus devfn (target t bus devfn)
   target-selected ne =
       tested (eqb (devfn % 8) 0) (λ q. rw (target-is q) (found-selected q (λ e. ne (target-is q ∙ e))))
       (λ q. absurd (ne (target-none q)))

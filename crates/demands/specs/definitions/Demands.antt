@@ -10,6 +10,11 @@ use Rattle.rack.specs.definitions.Node.{regionIn}
 use Rattle.rack.specs.definitions.Tree.{Tree, depth, greatestDepth}
 use Rattle.rack.specs.definitions.Grow.{tree}
 use Rattle.rack.specs.definitions.Refusal.{rackRefusal, FirstFaultyNode}
+use Rattle.seat.specs.definitions.Grants as seating
+use Rattle.seat.specs.definitions.Grants.{acting, noGrants, namedMissing, grants}
+use Rattle.seat_laws.specs.definitions.Kept.{Kept}
+use Rattle.seat_laws.specs.definitions.Running.{cursorAfter}
+use Rattle.seat_laws.specs.definitions.Before.{runBefore, linesBefore}
 use Rattle.register_header.specs.definitions.Register.{readRegister}
 use Rattle.register_image.specs.definitions.Image.{Images, Result, view, writeNode, gives}
 use Rattle.register_image.specs.definitions.Fixed.{imageRefusal, lengthsWrong}
@@ -20,19 +25,20 @@ use Rattle.claim_agent.specs.definitions.WindowEnds.{windowEnds}
 use Rattle.claim_laws.specs.definitions.Same.{SameButStatus}
 use Rattle.check_search.specs.declared.Report.the-variants.{Pass, Fault}
 use Rattle.check_search.specs.definitions.Check.{check}
-use Rattle.file_record.specs.declared.Class.{Class}
 use Rattle.file_record.specs.declared.Event.{Event}
 use Rattle.file_record.specs.definitions.Events.{eventIn, eventBytes}
-use Rattle.file_record.specs.definitions.Load.{readIn, rackAlone}
-use Rattle.file_laws.specs.definitions.Records.{FirstFaulty, Faultless}
+use Rattle.file_record.specs.definitions.Load.{readIn, fileIn, rackAlone}
+use Rattle.file_laws.specs.definitions.Records.{Stands, FirstFaulty, Faultless, FaultySeat}
 use Rattle.event_run.specs.declared.Answer.{Answer}
 use Rattle.event_run.specs.declared.Answer.the-variants.{Checked}
 use Rattle.event_run.specs.definitions.Run.{eventRun}
+use Rattle.print_file.specs.definitions.Output.{blank, eventsAt, firstAt, outputOf}
+use Rattle.print_file.specs.definitions.Place.{endUpTo}
 use Rattle.call_table.specs.declared.Reply.the-variants as reply
 use Rattle.call_table.specs.declared.Number.the-variants as number
 use Rattle.call_table.specs.declared.RangeReply.the-variants as range
 use Rattle.call_table.specs.definitions.Call as call
-use Rattle.call_table.specs.definitions.Call.{refusalBy, ran, runIn, checkIn}
+use Rattle.call_table.specs.definitions.Call.{refusalBy, runRefusal, ran, runIn, checkIn}
 use Rattle.arbiter.specs.declared.State.{State}
 use Rattle.arbiter.specs.declared.Arbitration.the-variants as arbitration
 use Rattle.arbiter.specs.definitions.Arbiter as arbiter
@@ -41,87 +47,107 @@ use Rattle.call_numbers.specs.definitions.Numbers.{eight, zeros, arbitrationNum
 use Rattle.muzgante.specs.definitions.Called.{refusedCall, repliedCall, endsCall, rackRun, rackCheck, rackWindow, rackReset, rackGrant}
 use Rattle.demand_passed.specs.definitions.OneClaimant.{OneClaimant}
 use Rattle.demand_passed.specs.definitions.FirstFault.{FirstFault}
-use Rattle.demand_calls.specs.definitions.Events.{Fits, replyNumber, Goes, crossings, startBus, AllWriteNone, afterAll, MayNotDrive, SpecialCycle, specialReply}
-use Rattle.demand_calls.specs.definitions.CCalls.{InOrder, AllCallsWriteNone, afterCalls, Carries}
+use Rattle.demand_calls.specs.definitions.Events.{Fits, replyNumber, Goes, crossings, startBus, Act, AllWriteNone, afterAll, allBy, MayNotDrive, SpecialCycle, specialReply, DeniedWrite, deniedReply, WouldStore}
+use Rattle.demand_calls.specs.definitions.CCalls.{InOrder, CAct, AllCallsWriteNone, afterCalls, Carries}
 use Rattle.demand_calls.specs.definitions.CCalls as c
 
 -- 1. 'Refused, by the numbers in document 01, are an overlong or broken rack file, an impossible tree, a false register image and an
 -- event or call with a field out of range; a refusal leaves every image untouched. Every other input is accepted and gets its answer.'
 
--- the bytes of a rack file, or those of the rack of a C call; `known` are the classes of records that may be read
-pub record Bytes (known : Class → Bool) (b : List ℕ) : Type 0 where
-  pub overlong : 65536 < length b → (readIn known b .refusal ≡ 1) × (readIn known b .offset ≡ 65536)
-  pub empty : length b ≡ 0 → (readIn known b .refusal ≡ 4) × (readIn known b .offset ≡ 0)
+-- the bytes of a whole rack file, or those of the rack of a C call
+pub record Bytes (whole : Bool) (b : List ℕ) : Type 0 where
+  pub overlong : 65536 < length b → (readIn whole b .refusal ≡ 1) × (readIn whole b .offset ≡ 65536)
+  pub empty : length b ≡ 0 → (readIn whole b .refusal ≡ 4) × (readIn whole b .offset ≡ 0)
   -- of all others number n is given at offset o exactly where n is the first that applies at the first faulty record, which is at o
-  pub refused : length b ≤ 65536 → (length b ≡ 0 → ⊥) → (readIn known b .refusal ≡ 0 → ⊥)
-      → FirstFaulty known b (readIn known b .refusal) (readIn known b .offset)
-  pub refuses : length b ≤ 65536 → (length b ≡ 0 → ⊥) → (n o : ℕ) → FirstFaulty known b n o
-      → (readIn known b .refusal ≡ n) × (readIn known b .offset ≡ o)
+  pub refused : length b ≤ 65536 → (length b ≡ 0 → ⊥) → (readIn whole b .refusal ≡ 0 → ⊥)
+      → FirstFaulty whole b (readIn whole b .refusal) (readIn whole b .offset)
+  pub refuses : length b ≤ 65536 → (length b ≡ 0 → ⊥) → (n o : ℕ) → FirstFaulty whole b n o
+      → (readIn whole b .refusal ≡ n) × (readIn whole b .offset ≡ o)
   -- and they are accepted exactly where no record has a fault
-  pub accepts : length b ≤ 65536 → (length b ≡ 0 → ⊥) → Faultless known b → readIn known b .refusal ≡ 0
-  pub accepted : readIn known b .refusal ≡ 0 → Faultless known b
+  pub accepts : length b ≤ 65536 → (length b ≡ 0 → ⊥) → Faultless whole b → readIn whole b .refusal ≡ 0
+  pub accepted : readIn whole b .refusal ≡ 0 → Faultless whole b
 
 -- a decoded rack: 6 to 10
 pub record Nodes (t : Tree) : Type 0 where
   pub refused : (rackRefusal t ≡ 0 → ⊥) → FirstFaultyNode t (rackRefusal t)
   pub refuses : {n : ℕ} → FirstFaultyNode t n → rackRefusal t ≡ n
 
--- a call over a decoded rack; `own` is its number for what it is given, 0 where that is right
-pub record Order (t : Tree) (im : Images) (own : ℕ) : Type 0 where
-  pub by-rack : (rackRefusal t ≡ 0 → ⊥) → refusalBy t im own ≡ rackRefusal t
-  pub by-image : rackRefusal t ≡ 0 → (imageRefusal t im ≡ 0 → ⊥) → refusalBy t im own ≡ imageRefusal t im
-  pub by-own : rackRefusal t ≡ 0 → imageRefusal t im ≡ 0 → refusalBy t im own ≡ own
-  pub accepted : refusalBy t im own ≡ 0 → (rackRefusal t ≡ 0) × (imageRefusal t im ≡ 0) × (own ≡ 0)
+-- 02, E1: 14. In the rack bytes of a C call it is given where one of the seat records is faulty, in a decoded rack where a pair is named
+-- whose node is missing; in a file it stops the reading, so an accepted file has none
+pub record Seats (b : List ℕ) : Type 0 where
+  pub wrong : rackAlone b .refusal ≡ 0 → (k : ℕ) → Stands b k → FaultySeat b k → rackAlone b .grants .wrong ≡ true
+  pub right : rackAlone b .refusal ≡ 0 → ((k : ℕ) → Stands b k → FaultySeat b k → ⊥) → rackAlone b .grants .wrong ≡ false
+  pub file : fileIn b .refusal ≡ 0 → fileIn b .grants .wrong ≡ false
+
+pub record NamedPairs (rack : Rack) : Type 0 where
+  pub wrong : (k : ℕ) → k < 1440 → namedMissing rack k ≡ true → grants rack .wrong ≡ true
+  pub right : ((k : ℕ) → k < 1440 → namedMissing rack k ≡ false) → grants rack .wrong ≡ false
+
+-- a call over a decoded rack; `field` is 13 where a field that it is given is wrong, `seat` 15 where a seat is unknown, and 0 else
+pub record Order (t : Tree) (g : seating.Grants) (im : Images) (field seat : ℕ) : Type 0 where
+  pub by-rack : (rackRefusal t ≡ 0 → ⊥) → refusalBy t g im field seat ≡ rackRefusal t
+  pub by-image : rackRefusal t ≡ 0 → (imageRefusal t im ≡ 0 → ⊥) → refusalBy t g im field seat ≡ imageRefusal t im
+  pub by-field : rackRefusal t ≡ 0 → imageRefusal t im ≡ 0 → (field ≡ 0 → ⊥) → refusalBy t g im field seat ≡ field
+  -- 'both after 13'
+  pub by-grants : rackRefusal t ≡ 0 → imageRefusal t im ≡ 0 → field ≡ 0 → g .wrong ≡ true → refusalBy t g im field seat ≡ 14
+  pub by-seat : rackRefusal t ≡ 0 → imageRefusal t im ≡ 0 → field ≡ 0 → g .wrong ≡ false → refusalBy t g im field seat ≡ seat
+  pub accepted : refusalBy t g im field seat ≡ 0
+      → (rackRefusal t ≡ 0) × (imageRefusal t im ≡ 0) × (field ≡ 0) × (g .wrong ≡ false) × (seat ≡ 0)
 
 -- each call over a decoded rack: what it gives where it is refused, and where it is not
 module _ (rack : Rack) (im : Images) where
   pub record Read (i register : ℕ) : Type 0 where
-    pub refused : (refusalBy (tree rack) im (call.readRefusal (tree rack) i register) ≡ 0 → ⊥)
-        → call.readIn (tree rack) im i register ≡ number.Refused (refusalBy (tree rack) im (call.readRefusal (tree rack) i register))
-    pub answers : refusalBy (tree rack) im (call.readRefusal (tree rack) i register) ≡ 0
-        → call.readIn (tree rack) im i register ≡ number.Value (readRegister (view (tree rack) im i) register)
+    pub refused : (refusalBy (tree rack) (grants rack) im (call.readRefusal (tree rack) i register) 0 ≡ 0 → ⊥)
+        → call.readIn (tree rack) (grants rack) im i register ≡ number.Refused (refusalBy (tree rack) (grants rack) im (call.readRefusal (tree rack) i register) 0)
+    pub answers : refusalBy (tree rack) (grants rack) im (call.readRefusal (tree rack) i register) 0 ≡ 0
+        → call.readIn (tree rack) (grants rack) im i register ≡ number.Value (readRegister (view (tree rack) im i) register)
 
   pub record Write (i register enables put : ℕ) : Type 0 where
-    pub refused : (refusalBy (tree rack) im (call.storeRefusal (tree rack) i register enables) ≡ 0 → ⊥)
-        → call.storedIn (tree rack) im i register enables put ≡ im
-    pub answers : refusalBy (tree rack) im (call.storeRefusal (tree rack) i register enables) ≡ 0
-        → call.storedIn (tree rack) im i register enables put ≡ writeNode (tree rack) im i register enables put
+    pub refused : (refusalBy (tree rack) (grants rack) im (call.storeRefusal (tree rack) i register enables) 0 ≡ 0 → ⊥)
+        → call.storedIn (tree rack) (grants rack) im i register enables put ≡ im
+    pub answers : refusalBy (tree rack) (grants rack) im (call.storeRefusal (tree rack) i register enables) 0 ≡ 0
+        → call.storedIn (tree rack) (grants rack) im i register enables put ≡ writeNode (tree rack) im i register enables put
 
   -- 01: 'The view shows an empty part'
   pub record View (i : ℕ) : Type 0 where
-    pub refused : (refusalBy (tree rack) im (call.viewRefusal (tree rack) i) ≡ 0 → ⊥) → call.viewIn (tree rack) im i ≡ []
-    pub answers : refusalBy (tree rack) im (call.viewRefusal (tree rack) i) ≡ 0 → call.viewIn (tree rack) im i ≡ view (tree rack) im i
+    pub refused : (refusalBy (tree rack) (grants rack) im (call.viewRefusal (tree rack) i) 0 ≡ 0 → ⊥) → call.viewIn (tree rack) (grants rack) im i ≡ []
+    pub answers : refusalBy (tree rack) (grants rack) im (call.viewRefusal (tree rack) i) 0 ≡ 0 → call.viewIn (tree rack) (grants rack) im i ≡ view (tree rack) im i
 
   -- 01: 'A region has 2 to the e bytes', 'A kind 0 region has size 0'
   pub record Size (i r : ℕ) : Type 0 where
-    pub refused : (refusalBy (tree rack) im (call.regionRefusal (tree rack) i r) ≡ 0 → ⊥)
-        → call.sizeIn (tree rack) im i r ≡ number.Refused (refusalBy (tree rack) im (call.regionRefusal (tree rack) i r))
-    pub answers : refusalBy (tree rack) im (call.regionRefusal (tree rack) i r) ≡ 0
-        → call.sizeIn (tree rack) im i r
+    pub refused : (refusalBy (tree rack) (grants rack) im (call.regionRefusal (tree rack) i r) 0 ≡ 0 → ⊥)
+        → call.sizeIn (tree rack) (grants rack) im i r ≡ number.Refused (refusalBy (tree rack) (grants rack) im (call.regionRefusal (tree rack) i r) 0)
+    pub answers : refusalBy (tree rack) (grants rack) im (call.regionRefusal (tree rack) i r) 0 ≡ 0
+        → call.sizeIn (tree rack) (grants rack) im i r
         ≡ number.Value (cond (eqb (regionIn (tree rack .node i) r .kind) 0) 0 (2 ^ (regionIn (tree rack .node i) r .exponent)))
 
   pub record Window (i k : ℕ) : Type 0 where
-    pub refused : (refusalBy (tree rack) im (call.windowRefusal (tree rack) i k) ≡ 0 → ⊥)
-        → call.endsIn (tree rack) im i k ≡ range.Refused (refusalBy (tree rack) im (call.windowRefusal (tree rack) i k))
-    pub answers : refusalBy (tree rack) im (call.windowRefusal (tree rack) i k) ≡ 0
-        → call.endsIn (tree rack) im i k ≡ range.Range (windowEnds (tree rack) im i k)
+    pub refused : (refusalBy (tree rack) (grants rack) im (call.windowRefusal (tree rack) i k) 0 ≡ 0 → ⊥)
+        → call.endsIn (tree rack) (grants rack) im i k ≡ range.Refused (refusalBy (tree rack) (grants rack) im (call.windowRefusal (tree rack) i k) 0)
+    pub answers : refusalBy (tree rack) (grants rack) im (call.windowRefusal (tree rack) i k) 0 ≡ 0
+        → call.endsIn (tree rack) (grants rack) im i k ≡ range.Range (windowEnds (tree rack) im i k)
 
-  pub record Run (e : Event) : Type 0 where
-    pub refused : (refusalBy (tree rack) im (call.eventRefusal (tree rack) e) ≡ 0 → ⊥)
-        → runIn (tree rack) im e
-        ≡ gives (reply.Refused (refusalBy (tree rack) im (call.eventRefusal (tree rack) e))) im
-    pub answers : refusalBy (tree rack) im (call.eventRefusal (tree rack) e) ≡ 0
-        → runIn (tree rack) im e ≡ ran (eventRun (tree rack) im e)
+  -- 02, E1: 'A call that runs an event is told the acting seat'
+  pub record Run (seat : ℕ) (e : Event) : Type 0 where
+    pub refused : (runRefusal (tree rack) (acting (grants rack) seat) im e ≡ 0 → ⊥)
+        → runIn (tree rack) (acting (grants rack) seat) im e
+        ≡ gives (reply.Refused (runRefusal (tree rack) (acting (grants rack) seat) im e)) im
+    pub answers : runRefusal (tree rack) (acting (grants rack) seat) im e ≡ 0
+        → runIn (tree rack) (acting (grants rack) seat) im e ≡ ran (eventRun (tree rack) (acting (grants rack) seat) im e)
 
   pub record Check : Type 0 where
-    pub refused : (refusalBy (tree rack) im 0 ≡ 0 → ⊥) → checkIn (tree rack) im ≡ reply.Refused (refusalBy (tree rack) im 0)
-    pub answers : refusalBy (tree rack) im 0 ≡ 0 → checkIn (tree rack) im ≡ reply.Answered (Checked (check (tree rack) im))
+    pub refused : (refusalBy (tree rack) (grants rack) im 0 0 ≡ 0 → ⊥)
+        → checkIn (tree rack) (grants rack) im ≡ reply.Refused (refusalBy (tree rack) (grants rack) im 0 0)
+    pub answers : refusalBy (tree rack) (grants rack) im 0 0 ≡ 0
+        → checkIn (tree rack) (grants rack) im ≡ reply.Answered (Checked (check (tree rack) im))
 
--- rack_reset from C, which refuses 1 to 10 and 11
+-- rack_reset from C, which refuses 1 to 10, 11 and 14
 pub record Reset (b : List ℕ) (im : Images) : Type 0 where
   pub by-rack : (rackAlone b .refusal ≡ 0 → ⊥) → rackReset b im ≡ refusedCall (rackAlone b .refusal) im
   pub by-length : rackAlone b .refusal ≡ 0 → lengthsWrong (rackAlone b .tree) im ≡ true → rackReset b im ≡ refusedCall 11 im
-  pub answers : rackAlone b .refusal ≡ 0 → lengthsWrong (rackAlone b .tree) im ≡ false
+  pub by-grants : rackAlone b .refusal ≡ 0 → lengthsWrong (rackAlone b .tree) im ≡ false → rackAlone b .grants .wrong ≡ true
+      → rackReset b im ≡ refusedCall 14 im
+  pub answers : rackAlone b .refusal ≡ 0 → lengthsWrong (rackAlone b .tree) im ≡ false → rackAlone b .grants .wrong ≡ false
       → rackReset b im ≡ record { code = 0; numbers = zeros; after = resetImages (rackAlone b .tree) im }
 
 -- 02, E14: a step of the arbiter, as an open call and from C. It has no image; 'A mask or request set with a bit above 9, or a state that
@@ -139,24 +165,27 @@ pub record CGrants (mask requests high low : ℕ) : Type 0 where
       ≡ arbitrationNumbers (answerOf (step mask requests (record { high = high; low = low }))))
 
 pub record Demand1 : Type 0 where
-  pub bytes : (known : Class → Bool) (b : List ℕ) → Bytes known b
+  pub bytes : (whole : Bool) (b : List ℕ) → Bytes whole b
   pub nodes : (t : Tree) → Nodes t
-  pub order : (t : Tree) (im : Images) (own : ℕ) → Order t im own
+  pub seats : (b : List ℕ) → Seats b
+  pub pairs : (rack : Rack) → NamedPairs rack
+  pub order : (t : Tree) (g : seating.Grants) (im : Images) (field seat : ℕ) → Order t g im field seat
   pub reads : (rack : Rack) (im : Images) (i register : ℕ) → Read rack im i register
   pub writes : (rack : Rack) (im : Images) (i register enables put : ℕ) → Write rack im i register enables put
   pub views : (rack : Rack) (im : Images) (i : ℕ) → View rack im i
   pub sizes : (rack : Rack) (im : Images) (i r : ℕ) → Size rack im i r
   pub windows : (rack : Rack) (im : Images) (i k : ℕ) → Window rack im i k
-  pub runs : (rack : Rack) (im : Images) (e : Event) → Run rack im e
+  pub runs : (rack : Rack) (im : Images) (seat : ℕ) (e : Event) → Run rack im seat e
   pub checks : (rack : Rack) (im : Images) → Check rack im
-  pub c-runs : (b event : List ℕ) (im : Images)
+  pub c-runs : (b : List ℕ) (seat : ℕ) (event : List ℕ) (im : Images)
       → InOrder b (eventBytes event) im (call.eventRefusal (rackAlone b .tree) (eventIn event 0))
-      (repliedCall (ran (eventRun (rackAlone b .tree) im (eventIn event 0)))) (rackRun b event im)
+      (call.seatRefusal (acting (rackAlone b .grants) seat) (eventIn event 0))
+      (repliedCall (ran (eventRun (rackAlone b .tree) (acting (rackAlone b .grants) seat) im (eventIn event 0)))) (rackRun b seat event im)
   pub c-checks : (b : List ℕ) (im : Images)
-      → InOrder b 0 im 0 (repliedCall (gives (reply.Answered (Checked (check (rackAlone b .tree) im))) im))
+      → InOrder b 0 im 0 0 (repliedCall (gives (reply.Answered (Checked (check (rackAlone b .tree) im))) im))
       (rackCheck b im)
   pub c-windows : (b : List ℕ) (im : Images) (i k : ℕ)
-      → InOrder b 0 im (call.windowRefusal (rackAlone b .tree) i k)
+      → InOrder b 0 im (call.windowRefusal (rackAlone b .tree) i k) 0
       (endsCall (range.Range (windowEnds (rackAlone b .tree) im i k)) im) (rackWindow b im i k)
   pub c-reset : (b : List ℕ) (im : Images) → Reset b im
   pub grants : (mask requests : ℕ) (s : State) → Grants mask requests s
@@ -167,6 +196,8 @@ pub record Demand1 : Type 0 where
 --
 -- Each contract is an equation between what a function gives, with both images at exit, and a definition:
 --
+--   seat             table::may_write               Grants.mayWrite
+--                    grow::grants_of                Grants.grants
 --   register_header  edition::options_of            Options.optionsOf
 --                    register::read_register        Register.readRegister
 --                    register::write_register       Register.writeRegister
@@ -207,33 +238,39 @@ pub record Demand1 : Type 0 where
 -- 02, E4: 'From then on an access in a passed rack may also end this way; the claimant count on the way there is as before': `Goes` has
 -- special cycles among the ends, and says of every bus that an access passed that its one claimant is the bridge that took it on.
 
+-- 02, E1: 'in demand 3 it counts as ended at its one owner': `Goes` has a write that is denied among those that came to the node of that
+-- device number, function 0, and `Denied3` says which ones are. Who acts plays no part in the check, which has no seat.
+
 -- 02, E11: 'A rack that mixes them is checked and routed under the same guarantee as before': a node of these racks is a device, a bridge
 -- or an older bridge.
 
 -- over the calls on a decoded rack, run_check and run_event
 pub record Checked3 (rack : Rack) (im : Images) : Type 0 where
-  pub passed : checkIn (tree rack) im ≡ reply.Answered (Checked Pass)
-      → (rackRefusal (tree rack) ≡ 0) × (imageRefusal (tree rack) im ≡ 0) × OneClaimant (tree rack) im
-  pub passes : rackRefusal (tree rack) ≡ 0 → imageRefusal (tree rack) im ≡ 0 → OneClaimant (tree rack) im
-      → checkIn (tree rack) im ≡ reply.Answered (Checked Pass)
+  pub passed : checkIn (tree rack) (grants rack) im ≡ reply.Answered (Checked Pass)
+      → (rackRefusal (tree rack) ≡ 0) × (imageRefusal (tree rack) im ≡ 0) × (grants rack .wrong ≡ false) × OneClaimant (tree rack) im
+  pub passes : rackRefusal (tree rack) ≡ 0 → imageRefusal (tree rack) im ≡ 0 → grants rack .wrong ≡ false → OneClaimant (tree rack) im
+      → checkIn (tree rack) (grants rack) im ≡ reply.Answered (Checked Pass)
   pub faulted : (bus : ℕ) (space : Space) (a driver x y : ℕ)
-      → checkIn (tree rack) im ≡ reply.Answered (Checked (Fault bus space a driver x y))
+      → checkIn (tree rack) (grants rack) im ≡ reply.Answered (Checked (Fault bus space a driver x y))
       → FirstFault (tree rack) im bus space a driver x y
 
--- im are the registers that the rack passed with; `es` are events that write no register, as many as one likes
+-- im are the registers that the rack passed with; `acts` are events that write no register, as many as one likes, by any seats
 pub record Passed3 (rack : Rack) (im : Images) : Type 0 where
-  pub goes : (im' : Images) → SameButStatus (tree rack) im im' → (e : Event) → Fits e
-      → refusalBy (tree rack) im' (call.eventRefusal (tree rack) e) ≡ 0
-      → (r : Result Answer) × (runIn (tree rack) im' e ≡ ran r) × Goes (tree rack) im' e r
-  pub no-clash : (im' : Images) → SameButStatus (tree rack) im im' → (e : Event) → Fits e
-      → replyNumber (runIn (tree rack) im' e .answer) ≡ 6 → ⊥
-  pub later : (es : List Event) → AllWriteNone es → SameButStatus (tree rack) im (afterAll (tree rack) es im)
+  pub goes : (im' : Images) → SameButStatus (tree rack) im im' → (seat : ℕ) (e : Event) → Fits e
+      → runRefusal (tree rack) (acting (grants rack) seat) im' e ≡ 0
+      → (r : Result Answer) × (runIn (tree rack) (acting (grants rack) seat) im' e ≡ ran r)
+      × Goes (tree rack) (acting (grants rack) seat) im' e r
+  pub no-clash : (im' : Images) → SameButStatus (tree rack) im im' → (seat : ℕ) (e : Event) → Fits e
+      → replyNumber (runIn (tree rack) (acting (grants rack) seat) im' e .answer) ≡ 6 → ⊥
+  pub later : (acts : List Act) → AllWriteNone acts → SameButStatus (tree rack) im (afterAll (tree rack) (grants rack) acts im)
 
 -- over the C calls rack_check and rack_run: 8 is the number of a pass, 9 of a fault, 6 of a clash
 pub record CChecked3 (b : List ℕ) (im : Images) : Type 0 where
   pub passed : c.number (rackCheck b im) ≡ 8
-      → (rackAlone b .refusal ≡ 0) × (imageRefusal (rackAlone b .tree) im ≡ 0) × OneClaimant (rackAlone b .tree) im
-  pub passes : rackAlone b .refusal ≡ 0 → imageRefusal (rackAlone b .tree) im ≡ 0 → OneClaimant (rackAlone b .tree) im
+      → (rackAlone b .refusal ≡ 0) × (imageRefusal (rackAlone b .tree) im ≡ 0) × (rackAlone b .grants .wrong ≡ false)
+      × OneClaimant (rackAlone b .tree) im
+  pub passes : rackAlone b .refusal ≡ 0 → imageRefusal (rackAlone b .tree) im ≡ 0 → rackAlone b .grants .wrong ≡ false
+      → OneClaimant (rackAlone b .tree) im
       → rackCheck b im ≡ record { code = 0; numbers = eight 8 []; after = im }
   pub faulted : (bus : ℕ) (space : Space) (a driver x y : ℕ)
       → rackCheck b im .numbers ≡ eight 9 (bus ∷ spaceNumber space ∷ a ∷ driver ∷ x ∷ y ∷ [])
@@ -242,43 +279,94 @@ pub record CChecked3 (b : List ℕ) (im : Images) : Type 0 where
       → (bus : ℕ) × (space : Space) × (a : ℕ) × (driver : ℕ) × (x : ℕ) × (y : ℕ)
       × (rackCheck b im .numbers ≡ eight 9 (bus ∷ spaceNumber space ∷ a ∷ driver ∷ x ∷ y ∷ []))
 
--- `event` is any event's bytes
+-- `event` is any event's bytes, `seat` any number that the call is told
 pub record CPassed3 (b : List ℕ) (im : Images) : Type 0 where
-  pub goes : (im' : Images) → SameButStatus (rackAlone b .tree) im im' → (event : List ℕ) → ((k : ℕ) → getD event k 0 < 256)
-      → rackRun b event im' .code ≡ 0
-      → (r : Result Answer) × (rackRun b event im' ≡ repliedCall (ran r)) × Goes (rackAlone b .tree) im' (eventIn event 0) r
-  pub no-clash : (im' : Images) → SameButStatus (rackAlone b .tree) im im' → (event : List ℕ)
-      → ((k : ℕ) → getD event k 0 < 256) → c.number (rackRun b event im') ≡ 6 → ⊥
-  pub later : (events : List (List ℕ)) → AllCallsWriteNone events → SameButStatus (rackAlone b .tree) im (afterCalls b events im)
+  pub goes : (im' : Images) → SameButStatus (rackAlone b .tree) im im' → (seat : ℕ) (event : List ℕ) → ((k : ℕ) → getD event k 0 < 256)
+      → rackRun b seat event im' .code ≡ 0
+      → (r : Result Answer) × (rackRun b seat event im' ≡ repliedCall (ran r))
+      × Goes (rackAlone b .tree) (acting (rackAlone b .grants) seat) im' (eventIn event 0) r
+  pub no-clash : (im' : Images) → SameButStatus (rackAlone b .tree) im im' → (seat : ℕ) (event : List ℕ)
+      → ((k : ℕ) → getD event k 0 < 256) → c.number (rackRun b seat event im') ≡ 6 → ⊥
+  pub later : (acts : List CAct) → AllCallsWriteNone acts → SameButStatus (rackAlone b .tree) im (afterCalls b acts im)
 
 -- 02, E4: 'A configuration write to device 31, function 7, register 0 is one, on the root bus for bus 0 and otherwise on the secondary bus
 -- where the access would turn into Type 0. It ends as `special` with crossings and holder, and sets no master-abort bit': an accepted
 -- event ends with number 12 exactly where it is that write and its way comes to a Type 0, passed rack or not
-pub record Special3 (rack : Rack) (im : Images) (e : Event) : Type 0 where
-  pub ends : (gs : List ℕ) (holder : ℕ) → refusalBy (tree rack) im (call.eventRefusal (tree rack) e) ≡ 0
-      → SpecialCycle (tree rack) im e gs holder → runIn (tree rack) im e ≡ specialReply im gs holder
-  pub only : replyNumber (runIn (tree rack) im e .answer) ≡ 12
-      → (gs : List ℕ) × (holder : ℕ) × SpecialCycle (tree rack) im e gs holder × (runIn (tree rack) im e ≡ specialReply im gs holder)
+pub record Special3 (rack : Rack) (im : Images) (seat : ℕ) (e : Event) : Type 0 where
+  pub ends : (gs : List ℕ) (holder : ℕ) → runRefusal (tree rack) (acting (grants rack) seat) im e ≡ 0
+      → SpecialCycle (tree rack) im e gs holder → runIn (tree rack) (acting (grants rack) seat) im e ≡ specialReply im gs holder
+  pub only : replyNumber (runIn (tree rack) (acting (grants rack) seat) im e .answer) ≡ 12
+      → (gs : List ℕ) × (holder : ℕ) × SpecialCycle (tree rack) im e gs holder
+      × (runIn (tree rack) (acting (grants rack) seat) im e ≡ specialReply im gs holder)
 
-pub record CSpecial3 (b event : List ℕ) (im : Images) : Type 0 where
-  pub ends : (gs : List ℕ) (holder : ℕ) → rackRun b event im .code ≡ 0
-      → SpecialCycle (rackAlone b .tree) im (eventIn event 0) gs holder → rackRun b event im ≡ c.specialCall im gs holder
-  pub only : c.number (rackRun b event im) ≡ 12
+pub record CSpecial3 (b : List ℕ) (seat : ℕ) (event : List ℕ) (im : Images) : Type 0 where
+  pub ends : (gs : List ℕ) (holder : ℕ) → rackRun b seat event im .code ≡ 0
+      → SpecialCycle (rackAlone b .tree) im (eventIn event 0) gs holder → rackRun b seat event im ≡ c.specialCall im gs holder
+  pub only : c.number (rackRun b seat event im) ≡ 12
       → (gs : List ℕ) × (holder : ℕ) × SpecialCycle (rackAlone b .tree) im (eventIn event 0) gs holder
-      × (rackRun b event im ≡ c.specialCall im gs holder)
+      × (rackRun b seat event im ≡ c.specialCall im gs holder)
+
+-- 02, E1: 'A write that reaches a register outside the grant ends as `denied` with its crossings, and stores nothing': number 10 is given
+-- only to a write that came to the one node of that device number, function 0, whose grant lacks the dword of a register below 40h
+pub record Denied3 (rack : Rack) (im : Images) (seat : ℕ) : Type 0 where
+  pub only : (e : Event) → replyNumber (runIn (tree rack) (acting (grants rack) seat) im e .answer) ≡ 10
+      → (gs : List ℕ) × (holder : ℕ) × (g : ℕ) × DeniedWrite (tree rack) (acting (grants rack) seat) im e gs holder g
+      × (runIn (tree rack) (acting (grants rack) seat) im e ≡ deniedReply im (length gs))
+  -- and to each of these that seat 0's would be stored at: with the same crossings, and no image changes. Where it may be written, the
+  -- write ends as seat 0's
+  pub would : (e : Event) → replyNumber (runIn (tree rack) (acting (grants rack) 0) im e .answer) ≡ 2
+      → WouldStore (tree rack) (acting (grants rack) seat) im e
+
+pub record CDenied3 (b : List ℕ) (seat : ℕ) (event : List ℕ) (im : Images) : Type 0 where
+  pub only : c.number (rackRun b seat event im) ≡ 10
+      → (gs : List ℕ) × (holder : ℕ) × (g : ℕ)
+      × DeniedWrite (rackAlone b .tree) (acting (rackAlone b .grants) seat) im (eventIn event 0) gs holder g
+      × (rackRun b seat event im ≡ c.deniedCall im (length gs))
+  pub would : c.number (rackRun b 0 event im) ≡ 2 → rackRun b seat event im .code ≡ 0
+      → WouldStore (rackAlone b .tree) (acting (rackAlone b .grants) seat) im (eventIn event 0)
+      × (rackRun b seat event im ≡ repliedCall (runIn (rackAlone b .tree) (acting (rackAlone b .grants) seat) im (eventIn event 0)))
 
 pub record Demand3 : Type 0 where
   pub checked : (rack : Rack) (im : Images) → Checked3 rack im
-  pub passed : (rack : Rack) (im : Images) → checkIn (tree rack) im ≡ reply.Answered (Checked Pass) → Passed3 rack im
-  pub crossed : (rack : Rack) (im : Images) (e : Event)
-      → crossings (runIn (tree rack) im e .answer) ≤ depth (tree rack) (startBus (tree rack) e) + greatestDepth (tree rack)
+  pub passed : (rack : Rack) (im : Images) → checkIn (tree rack) (grants rack) im ≡ reply.Answered (Checked Pass) → Passed3 rack im
+  pub crossed : (rack : Rack) (im : Images) (seat : ℕ) (e : Event)
+      → crossings (runIn (tree rack) (acting (grants rack) seat) im e .answer)
+      ≤ depth (tree rack) (startBus (tree rack) e) + greatestDepth (tree rack)
   -- 'is never driven': an answer is silent, number 7, only where its initiator is a device with command bit 2 clear
-  pub silent : (rack : Rack) (im : Images) (e : Event) → replyNumber (runIn (tree rack) im e .answer) ≡ 7 → MayNotDrive (tree rack) im e
-  pub special : (rack : Rack) (im : Images) (e : Event) → Special3 rack im e
+  pub silent : (rack : Rack) (im : Images) (seat : ℕ) (e : Event)
+      → replyNumber (runIn (tree rack) (acting (grants rack) seat) im e .answer) ≡ 7 → MayNotDrive (tree rack) im e
+  pub special : (rack : Rack) (im : Images) (seat : ℕ) (e : Event) → Special3 rack im seat e
+  pub denied : (rack : Rack) (im : Images) (seat : ℕ) → Denied3 rack im seat
   pub c-checked : (b : List ℕ) (im : Images) → CChecked3 b im
   pub c-passed : (b : List ℕ) (im : Images) → c.number (rackCheck b im) ≡ 8 → CPassed3 b im
-  pub c-special : (b event : List ℕ) (im : Images) → CSpecial3 b event im
-  -- the endings 1 to 6 and 12 carry their crossings as their second number
-  pub c-crossed : (b event : List ℕ) (im : Images) → rackRun b event im .code ≡ 0 → Carries (c.number (rackRun b event im))
-      → getD (rackRun b event im .numbers) 1 0
+  pub c-special : (b : List ℕ) (seat : ℕ) (event : List ℕ) (im : Images) → CSpecial3 b seat event im
+  pub c-denied : (b : List ℕ) (seat : ℕ) (event : List ℕ) (im : Images) → CDenied3 b seat event im
+  -- the endings 1 to 6, 10 and 12 carry their crossings as their second number
+  pub c-crossed : (b : List ℕ) (seat : ℕ) (event : List ℕ) (im : Images) → rackRun b seat event im .code ≡ 0
+      → Carries (c.number (rackRun b seat event im))
+      → getD (rackRun b seat event im .numbers) 1 0
       ≤ depth (rackAlone b .tree) (startBus (rackAlone b .tree) (eventIn event 0)) + greatestDepth (rackAlone b .tree)
+
+-- 02, E1: 'After any list of events by one seat other than 0, a register outside its grants differs at most in status bits': over calls of
+-- run_event, over the run of a file while the seat acts, and over calls of rack_run; whatever the images, and refused events among them
+pub record SeatsKeep : Type 0 where
+  pub events : (rack : Rack) (seat : ℕ) → (seat ≡ 0 → ⊥) → (es : List Event) (im : Images)
+      → Kept (tree rack) (acting (grants rack) seat) im (afterAll (tree rack) (grants rack) (allBy seat es) im)
+  -- after m events of an accepted file the seat acts, and it goes on acting for n events
+  pub files : (b : List ℕ) → fileIn b .refusal ≡ 0 → (m n : ℕ) (im : Images) → lengthsWrong (fileIn b .tree) im ≡ false
+      → (cursorAfter m b (firstAt (fileIn b .offset)) .seat ≡ 0 → ⊥)
+      → ((k : ℕ) → k < n
+      → cursorAfter k b (cursorAfter m b (firstAt (fileIn b .offset))) .seat ≡ cursorAfter m b (firstAt (fileIn b .offset)) .seat)
+      → Kept (fileIn b .tree) (acting (fileIn b .grants) (cursorAfter m b (firstAt (fileIn b .offset)) .seat)) im
+      (endUpTo n (fileIn b .tree) (fileIn b .grants) b (cursorAfter m b (firstAt (fileIn b .offset))) im .before)
+  pub c-calls : (b : List ℕ) (seat : ℕ) → (seat ≡ 0 → ⊥) → (events : List (List ℕ)) (im : Images)
+      → Kept (rackAlone b .tree) (acting (rackAlone b .grants) seat) im (afterCalls b (c.allTold seat events) im)
+
+-- 02, E1: 'the run starts as seat 0, which may write all': seat 0 runs every event as before there were seats, and the output of an accepted
+-- file whose rack has no seat record is what it was
+pub record AsBefore : Type 0 where
+  pub starts : (o : ℕ) → firstAt o .seat ≡ 0
+  pub seat-0 : (t : Tree) (g : seating.Grants) (im : Images) (e : Event) → eventRun t (acting g 0) im e ≡ runBefore t im e
+  pub prints : (b : List ℕ) → fileIn b .refusal ≡ 0 → fileIn b .grants ≡ noGrants
+      → outputOf b
+      ≡ linesBefore (fileIn b .tree) 1 (resetImages (fileIn b .tree) (blank (fileIn b .tree))) (eventsAt b (fileIn b .offset))

@@ -1,18 +1,22 @@
 -- The demands are met.
 use mathlib.Core.Path.{_≡_, refl, ap}
-use mathlib.Core.Bool.{Bool}
+use mathlib.Core.Bool.{Bool, false}
 use mathlib.Core.List.{List}
 use Prim.Native.Nat.{ℕ}
 use Rattle.rack.specs.declared.Rack.{Rack}
 use Rattle.rack.specs.definitions.Grow.{tree}
 use Rattle.rack_laws.specs.laws.Refusals as refusals
 use Rattle.rack_laws.specs.laws.Stored.{accepted-stored}
+use Rattle.rack.specs.laws.Search.{none-all, found-at}
+use Rattle.seat.specs.definitions.Grants.{acting, namedMissing, grants}
+use Rattle.seat_laws.specs.laws.Files.{run-kept}
+use Rattle.seat_laws.specs.laws.Before.{zero-before, output-before}
 use Rattle.register_image.specs.definitions.Image.{Images}
 use Rattle.check_search.specs.declared.Report.the-variants.{Pass}
-use Rattle.file_record.specs.declared.Class.{Class}
 use Rattle.file_record.specs.definitions.Load.{Loading}
 use Rattle.file_record.specs.laws.Turns.{read-over, read-empty}
 use Rattle.file_laws.specs.laws.Refused as file
+use Rattle.file_laws.specs.laws.Seats as seats
 use Rattle.event_run.specs.declared.Answer.the-variants.{Checked}
 use Rattle.arbiter.specs.definitions.Arbiter.{step}
 use Rattle.arbiter.specs.laws.Answers.{is-refused, is-answered, no-refusal}
@@ -23,6 +27,8 @@ use Rattle.demand_calls.specs.laws.Refusing as refusing
 use Rattle.demand_calls.specs.laws.Sizing.{size-accepted}
 use Rattle.demand_calls.specs.laws.Silent.{event-silent}
 use Rattle.demand_calls.specs.laws.Special.{event-special, event-arrives}
+use Rattle.demand_calls.specs.laws.Seats.{event-denied, event-stores, seat-keeps}
+use Rattle.demand_calls.specs.laws.CSeats.{c-run-denied, c-run-stores, c-seat-keeps}
 use Rattle.demand_calls.specs.laws.Checking as checking
 use Rattle.demand_calls.specs.laws.Decoded as decoded
 use Rattle.demand_calls.specs.laws.CRefusing as c-refusing
@@ -32,21 +38,21 @@ use Rattle.demand_calls.specs.laws.CLater as c-later
 use Rattle.demand_calls.specs.laws.CSpecial as c-special
 use Rattle.demand_calls.specs.definitions.CCalls as c
 use Rattle.demands.specs.definitions.Demands as demands
-use Rattle.demands.specs.definitions.Demands.{Demand1, Demand3}
+use Rattle.demands.specs.definitions.Demands.{Demand1, Demand3, SeatsKeep, AsBefore}
 
-bytes : (known : Class → Bool) (b : List ℕ) → demands.Bytes known b
-bytes known b =
+bytes : (whole : Bool) (b : List ℕ) → demands.Bytes whole b
+bytes whole b =
     record {
       overlong = λ l.
-          let e = read-over known b l in
+          let e = read-over whole b l in
           (ap (λ (d : Loading). d .refusal) e, ap (λ (d : Loading). d .offset) e);
       empty = λ z.
-          let e = read-empty known b z in
+          let e = read-empty whole b z in
           (ap (λ (d : Loading). d .refusal) e, ap (λ (d : Loading). d .offset) e);
-      refused = λ l s z. file.given known b l s z;
-      refuses = λ l s n o f. file.gives known b l s n o f;
-      accepts = λ l s f. file.accepts known b l s f;
-      accepted = λ z. file.faultless known b z;
+      refused = λ l s z. file.given whole b l s z;
+      refuses = λ l s n o f. file.gives whole b l s n o f;
+      accepts = λ l s f. file.accepts whole b l s f;
+      accepted = λ z. file.faultless whole b z;
     }
 
 c-grants : (mask requests high low : ℕ) → demands.CGrants mask requests high low
@@ -63,28 +69,47 @@ demand1 =
     record {
       bytes = bytes;
       nodes = λ t. record { refused = refusals.given t; refuses = λ f. refusals.gives t f };
-      order = λ t im own.
+      seats = λ b.
           record {
-            by-rack = refusing.by-rack t im own;
-            by-image = refusing.by-image t im own;
-            by-own = refusing.by-own t im own;
-            accepted = refusing.accepted t im own;
+            wrong = λ z k i f. seats.is-noted b false z k i f;
+            right = λ z f. seats.none-faulty b false z f;
+            file = seats.file-right b;
+          };
+      pairs = λ rack.
+          record {
+            wrong = λ k h e. found-at (namedMissing rack) 1440 k h e;
+            right = λ h. none-all (namedMissing rack) 1440 h;
+          };
+      order = λ t g im field seat.
+          record {
+            by-rack = refusing.by-rack t g im field seat;
+            by-image = refusing.by-image t g im field seat;
+            by-field = refusing.by-field t g im field seat;
+            by-grants = refusing.by-grants t g im field seat;
+            by-seat = refusing.by-seat t g im field seat;
+            accepted = refusing.accepted t g im field seat;
           };
       reads = λ rack im i register.
-          record { refused = refusing.read-refused (tree rack) im i register; answers = refusing.read-accepted (tree rack) im i register };
+          record { refused = refusing.read-refused (tree rack) (grants rack) im i register; answers = refusing.read-accepted (tree rack) (grants rack) im i register };
       writes = λ rack im i register enables put.
           record {
-            refused = refusing.write-untouched (tree rack) im i register enables put;
-            answers = refusing.write-stores (tree rack) im i register enables put;
+            refused = refusing.write-untouched (tree rack) (grants rack) im i register enables put;
+            answers = refusing.write-stores (tree rack) (grants rack) im i register enables put;
           };
-      views = λ rack im i. record { refused = refusing.view-empty (tree rack) im i; answers = refusing.view-shows (tree rack) im i };
-      sizes = λ rack im i r. record { refused = refusing.size-refused (tree rack) im i r; answers = size-accepted rack im i r };
+      views = λ rack im i. record { refused = refusing.view-empty (tree rack) (grants rack) im i; answers = refusing.view-shows (tree rack) (grants rack) im i };
+      sizes = λ rack im i r. record { refused = refusing.size-refused (tree rack) (grants rack) im i r; answers = size-accepted rack im i r };
       windows = λ rack im i k.
-          record { refused = refusing.ends-refused (tree rack) im i k; answers = refusing.ends-accepted (tree rack) im i k };
-      runs = λ rack im e.
-          record { refused = refusing.event-untouched (tree rack) im e; answers = refusing.event-runs (tree rack) im e };
+          record { refused = refusing.ends-refused (tree rack) (grants rack) im i k; answers = refusing.ends-accepted (tree rack) (grants rack) im i k };
+      runs = λ rack im seat e.
+          record {
+            refused = refusing.event-untouched (tree rack) (acting (grants rack) seat) im e;
+            answers = refusing.event-runs (tree rack) (acting (grants rack) seat) im e;
+          };
       checks = λ rack im.
-          record { refused = checking.check-refused (tree rack) im; answers = checking.check-accepted (tree rack) im };
+          record {
+            refused = checking.check-refused (tree rack) (grants rack) im;
+            answers = checking.check-accepted (tree rack) (grants rack) im;
+          };
       c-runs = c-refusing.run-refuses;
       c-checks = c-refusing.check-refuses;
       c-windows = c-refusing.window-refuses;
@@ -92,26 +117,27 @@ demand1 =
           record {
             by-rack = c-refusing.reset-by-rack b im;
             by-length = c-refusing.reset-by-length b im;
+            by-grants = c-refusing.reset-by-grants b im;
             answers = c-refusing.reset-accepts b im;
           };
       grants = λ mask requests s. record { refused = is-refused mask requests s; answers = is-answered mask requests s };
       c-grants = c-grants;
     }
 
-passed : (rack : Rack) (im : Images) → checkIn (tree rack) im ≡ reply.Answered (Checked Pass) → demands.Passed3 rack im
+passed : (rack : Rack) (im : Images) → checkIn (tree rack) (grants rack) im ≡ reply.Answered (Checked Pass) → demands.Passed3 rack im
 passed rack im pass =
     record {
-      goes = λ im' same e f z. decoded.rack-goes rack im pass im' same e f z;
-      no-clash = λ im' same e f n. decoded.rack-no-clash rack im pass im' same e f n;
-      later = λ es none. decoded.rack-later rack im pass es none;
+      goes = λ im' same seat e f z. decoded.rack-goes rack im pass im' same seat e f z;
+      no-clash = λ im' same seat e f n. decoded.rack-no-clash rack im pass im' same seat e f n;
+      later = λ acts none. decoded.rack-later rack im pass acts none;
     }
 
 c-passed : (b : List ℕ) (im : Images) → c.number (rackCheck b im) ≡ 8 → demands.CPassed3 b im
 c-passed b im pass =
     record {
-      goes = λ im' same event bytes ok. c-going.c-run-goes b event im im' pass same bytes ok;
-      no-clash = λ im' same event bytes n. c-going.c-run-no-clash b event im im' pass same bytes n;
-      later = λ events none. c-later.c-later-same b im pass events none;
+      goes = λ im' same seat event bytes ok. c-going.c-run-goes b seat event im im' pass same bytes ok;
+      no-clash = λ im' same seat event bytes n. c-going.c-run-no-clash b seat event im im' pass same bytes n;
+      later = λ acts none. c-later.c-later-same b im pass acts none;
     }
 
 pub demand3 : Demand3
@@ -119,17 +145,22 @@ demand3 =
     record {
       checked = λ rack im.
           record {
-            passed = checking.check-passed (tree rack) im;
-            passes = checking.check-passes (tree rack) im;
-            faulted = checking.check-faulted (tree rack) im;
+            passed = checking.check-passed (tree rack) (grants rack) im;
+            passes = checking.check-passes (tree rack) (grants rack) im;
+            faulted = checking.check-faulted (tree rack) (grants rack) im;
           };
       passed = passed;
       crossed = decoded.rack-crossings;
-      silent = λ rack im. event-silent (tree rack) (accepted-stored rack) im;
-      special = λ rack im e.
+      silent = λ rack im seat. event-silent (tree rack) (acting (grants rack) seat) (accepted-stored rack) im;
+      special = λ rack im seat e.
           record {
-            ends = λ gs holder z c. event-arrives (tree rack) im (accepted-stored rack) e gs holder z c;
-            only = event-special (tree rack) im e;
+            ends = λ gs holder z c. event-arrives (tree rack) (acting (grants rack) seat) im (accepted-stored rack) e gs holder z c;
+            only = event-special (tree rack) (acting (grants rack) seat) im e;
+          };
+      denied = λ rack im seat.
+          record {
+            only = event-denied (tree rack) (acting (grants rack) seat) im;
+            would = event-stores (tree rack) (acting (grants rack) seat) im;
           };
       c-checked = λ b im.
           record {
@@ -139,7 +170,20 @@ demand3 =
             shows = c-checking.c-check-shows b im;
           };
       c-passed = c-passed;
-      c-special = λ b event im.
-          record { ends = c-special.c-run-arrives b event im; only = c-special.c-run-special b event im };
+      c-special = λ b seat event im.
+          record { ends = c-special.c-run-arrives b seat event im; only = c-special.c-run-special b seat event im };
+      c-denied = λ b seat event im. record { only = c-run-denied b seat event im; would = c-run-stores b seat event im };
       c-crossed = c-going.c-run-crossings;
     }
+
+pub seats-keep : SeatsKeep
+seats-keep =
+    record {
+      events = λ rack seat other es im. seat-keeps (tree rack) (accepted-stored rack) (grants rack) seat other es im;
+      files = run-kept;
+      c-calls = c-seat-keeps;
+    }
+
+pub as-before : AsBefore
+as-before =
+    record { starts = λ o. refl; seat-0 = λ t g im e. zero-before t (acting g 0) refl im e; prints = λ b ok none. output-before b ok none }

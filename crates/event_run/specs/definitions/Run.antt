@@ -1,8 +1,9 @@
 -- The run of an event that is not refused.
 use Prim.Native.Nat.{ℕ}
-use mathlib.Core.Bool.{Bool, true, false, cond}
+use mathlib.Core.Bool.{Bool, true, false, not, _&&_, cond}
 use lib.Dec.{eqb}
 use Rattle.rack.specs.definitions.Tree.{Tree}
+use Rattle.seat.specs.definitions.Grants.{Acting, mayWrite}
 use Rattle.register_header.specs.definitions.Register.{readRegister}
 use Rattle.register_image.specs.definitions.Image.{Images, Result, view, writeNode, gives}
 use Rattle.claim_agent.specs.declared.Space.{Space}
@@ -14,11 +15,11 @@ use Rattle.route_bus.specs.declared.Route.{Route}
 use Rattle.route.specs.definitions.Route.{configure, access}
 use Rattle.check_search.specs.definitions.Check.{check}
 use Rattle.file_record.specs.declared.Event.{Event}
-use Rattle.file_record.specs.declared.Event.the-variants.{Write, Read, Memory, Io, Check}
+use Rattle.file_record.specs.declared.Event.the-variants.{Write, Read, Memory, Io, Check, Seat}
 use Rattle.event_run.specs.declared.Ending.{Ending}
-use Rattle.event_run.specs.declared.Ending.the-variants.{Data, Stored, Owner, Host, Unclaimed, Clash, Special, Silent}
+use Rattle.event_run.specs.declared.Ending.the-variants.{Data, Stored, Owner, Host, Unclaimed, Clash, Special, Silent, Denied}
 use Rattle.event_run.specs.declared.Answer.{Answer}
-use Rattle.event_run.specs.declared.Answer.the-variants.{Ended, Checked}
+use Rattle.event_run.specs.declared.Answer.the-variants.{Ended, Checked, Seated}
 
 -- a configuration access: bus, device times 8 plus function, register, enables and data
 abbrev pub configuration : Bool → ℕ → ℕ → ℕ → ℕ → ℕ → Access
@@ -40,30 +41,36 @@ registerOf t im x crossings g =
     cond (x .write) (answers crossings Stored (writeNode t im g (x .register) (x .enables) (x .«data»)))
     (answers crossings (Data (readRegister (view t im g) (x .register))) im)
 
--- what an access comes to, by where its route ended
-unfoldable pub endedAt : Tree → Images → Access → ℕ → End → Result Answer
-endedAt t im x crossings (end.Node g) = registerOf t im x crossings g
-endedAt t im x crossings (end.Owner node region offset) = answers crossings (Owner node region offset) im
-endedAt t im x crossings (end.Host offset) = answers crossings (Host offset) im
-endedAt t im x crossings (end.Unclaimed holder outcome) = answers crossings (Unclaimed holder outcome) im
-endedAt t im x crossings (end.Clash holder first second) = answers crossings (Clash holder first second) im
-endedAt t im x crossings (end.Special holder) = answers crossings (Special holder) im
-endedAt t im x crossings end.Silent = answers crossings Silent im
+-- 02, E1: 'A write that reaches a register outside the grant ends as `denied` with its crossings, and stores nothing'; `by` is who acts
+unfoldable pub reached : Tree → Acting → Images → Access → ℕ → ℕ → Result Answer
+reached t by im x crossings g =
+    cond (x .write && not (mayWrite by g (x .register))) (answers crossings Denied im) (registerOf t im x crossings g)
 
-abbrev pub ended : Tree → Access → Result Route → Result Answer
-ended t x o = endedAt t (o .after) x (o .answer .crossings) (o .answer .end)
+-- what an access comes to, by where its route ended
+unfoldable pub endedAt : Tree → Acting → Images → Access → ℕ → End → Result Answer
+endedAt t by im x crossings (end.Node g) = reached t by im x crossings g
+endedAt t by im x crossings (end.Owner node region offset) = answers crossings (Owner node region offset) im
+endedAt t by im x crossings (end.Host offset) = answers crossings (Host offset) im
+endedAt t by im x crossings (end.Unclaimed holder outcome) = answers crossings (Unclaimed holder outcome) im
+endedAt t by im x crossings (end.Clash holder first second) = answers crossings (Clash holder first second) im
+endedAt t by im x crossings (end.Special holder) = answers crossings (Special holder) im
+endedAt t by im x crossings end.Silent = answers crossings Silent im
+
+abbrev pub ended : Tree → Acting → Access → Result Route → Result Answer
+ended t by x o = endedAt t by (o .after) x (o .answer .crossings) (o .answer .end)
 
 -- 01: 'Configuration starts at the host', an access at its initiator
-abbrev pub configured : Tree → Images → Access → Result Answer
-configured t im x = ended t x (configure t im x)
+abbrev pub configured : Tree → Acting → Images → Access → Result Answer
+configured t by im x = ended t by x (configure t im x)
 
-abbrev pub accessed : Tree → Images → Access → ℕ → Result Answer
-accessed t im x initiator = ended t x (access t im x initiator)
+abbrev pub accessed : Tree → Acting → Images → Access → ℕ → Result Answer
+accessed t by im x initiator = ended t by x (access t im x initiator)
 
--- each event; 'A check changes no register'
-unfoldable pub eventRun : Tree → Images → Event → Result Answer
-eventRun t im (Write bus devfn register enables put) = configured t im (configuration true bus devfn register enables put)
-eventRun t im (Read bus devfn register) = configured t im (configuration false bus devfn register 0 0)
-eventRun t im (Memory initiator direction address) = accessed t im (addressed space.Memory direction address) initiator
-eventRun t im (Io initiator direction address) = accessed t im (addressed space.Io direction address) initiator
-eventRun t im Check = gives (Checked (check t im)) im
+-- each event; 'A check changes no register', nor does a seat event
+unfoldable pub eventRun : Tree → Acting → Images → Event → Result Answer
+eventRun t by im (Write bus devfn register enables put) = configured t by im (configuration true bus devfn register enables put)
+eventRun t by im (Read bus devfn register) = configured t by im (configuration false bus devfn register 0 0)
+eventRun t by im (Memory initiator direction address) = accessed t by im (addressed space.Memory direction address) initiator
+eventRun t by im (Io initiator direction address) = accessed t by im (addressed space.Io direction address) initiator
+eventRun t by im Check = gives (Checked (check t im)) im
+eventRun t by im (Seat seat) = gives (Seated seat) im

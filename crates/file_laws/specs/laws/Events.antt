@@ -45,5 +45,12 @@ module _ (b : List ℕ) (o : ℕ) where
   pub check-read : byteIn b o ≡ 8 → (eventKind (eventIn b o) ≡ 8) × (eventValues (eventIn b o) ≡ [])
   unfolding eventIn
   check-read e =
-      rw (ne-eqb (byteIn b o) 4 (other e (λ q. omega arith)), ne-eqb (byteIn b o) 5 (other e (λ q. omega arith)), ne-eqb (byteIn b o) 6 (other e (λ q. omega arith)), ne-eqb (byteIn b o) 7 (other e (λ q. omega arith)))
+      rw (ne-eqb (byteIn b o) 4 (other e (λ q. omega arith)), ne-eqb (byteIn b o) 5 (other e (λ q. omega arith)), ne-eqb (byteIn b o) 6 (other e (λ q. omega arith)), ne-eqb (byteIn b o) 7 (other e (λ q. omega arith)), ne-eqb (byteIn b o) 10 (other e (λ q. omega arith)))
+      (refl, refl)
+
+  -- 02, E1: 'Event kind 10 (seat)'
+  pub seat-read : byteIn b o ≡ 10 → (eventKind (eventIn b o) ≡ 10) × (eventValues (eventIn b o) ≡ byteIn b (o + 1) ∷ [])
+  unfolding eventIn
+  seat-read e =
+      rw (ne-eqb (byteIn b o) 4 (other e (λ q. omega arith)), ne-eqb (byteIn b o) 5 (other e (λ q. omega arith)), ne-eqb (byteIn b o) 6 (other e (λ q. omega arith)), ne-eqb (byteIn b o) 7 (other e (λ q. omega arith)), eq-eqb (byteIn b o) 10 e)
       (refl, refl)

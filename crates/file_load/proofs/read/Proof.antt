@@ -1,20 +1,22 @@
 use Prim.Native.Nat.{_-_}
 use lib.ListN.{length}
 use borrow.Author.Needs.{needs}
-use Rattle.file_record.specs.definitions.Record.{isKnown}
 use Rattle.file_record.specs.definitions.Loads.{readingOf}
 use Rattle.file_record.specs.laws.LoadsLaws.{Left, left-start, left-step, left-stop, left-less, left-end}
 use Rattle.file_load.proofs.read.Statement.{statement}
 use Rattle.file_load.proofs.read.Tie as tie
 
 abbrev Inv-loop : tie.InvT-loop
-Inv-loop file known table₀ w₀ table w = Left (isKnown known) file (readingOf w table)
+Inv-loop file whole table₀ grants₀ w₀ table grants w = Left whole file (readingOf w table grants)
 
 abbrev μ-loop : tie.MeasureT-loop
-μ-loop file known table₀ w₀ table w = length file - w .offset
+μ-loop file whole table₀ grants₀ w₀ table grants w = length file - w .offset
 
 no-table-requires : tie.Need-no-table-requires Inv-loop μ-loop
 no-table-requires c κs = search needs
+
+no-grants-requires : tie.Need-no-grants-requires Inv-loop μ-loop
+no-grants-requires c κs = search needs
 
 start-requires : tie.Need-start-requires Inv-loop μ-loop
 start-requires c κs = search needs
@@ -34,7 +36,7 @@ returns c = search (left-stop, needs)
 loop-less : tie.Need-loop-less Inv-loop μ-loop
 loop-less c =
     let k = c .before .before in
-    let t = k .before .before in
+    let t = k .before .before .before in
     left-less _ _ (t .before .before .loop .inv) (t .if1 .taken) (k .step .ensures) (c .if2 .left)
 
 loop-again : tie.Need-loop-again Inv-loop μ-loop
@@ -53,6 +55,7 @@ read-spec =
     Inv-loop
     μ-loop
     no-table-requires
+    no-grants-requires
     start-requires
     loop-holds
     step-requires

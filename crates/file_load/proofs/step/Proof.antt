@@ -1,4 +1,4 @@
-use Rattle.file_record.specs.laws.Steps.{class-told, host-left, shape-stops, node-goes, event-goes, host-goes}
+use Rattle.file_record.specs.laws.Steps.{class-told, host-left, shape-stops, node-goes, event-goes, seat-goes, host-goes}
 use borrow.Author.Needs.{needs}
 use Rattle.file_load.proofs.step.Statement.{statement}
 use Rattle.file_load.proofs.step.Tie as tie
@@ -33,11 +33,20 @@ past-event-requires c κs = search (class-told, needs)
 returns-3 : tie.Need-returns-3
 returns-3 c = search (event-goes, needs)
 
+is-a-requires-3 : tie.Need-is-a-requires-3
+is-a-requires-3 c κs = search needs
+
+past-seat-requires : tie.Need-past-seat-requires
+past-seat-requires c κs = search (class-told, needs)
+
+returns-4 : tie.Need-returns-4
+returns-4 c = search (seat-goes, needs)
+
 past-host-requires : tie.Need-past-host-requires
 past-host-requires c κs = search (host-left, needs)
 
-returns-4 : tie.Need-returns-4
-returns-4 c = search (host-goes, needs)
+returns-5 : tie.Need-returns-5
+returns-5 c = search (host-goes, host-left, needs)
 
 pub step-spec : {M : Type 1} → statement M
 step-spec =
@@ -53,5 +62,8 @@ step-spec =
     is-a-requires-2
     past-event-requires
     returns-3
+    is-a-requires-3
+    past-seat-requires
+    returns-4
     past-host-requires
-    returns-4)
+    returns-5)

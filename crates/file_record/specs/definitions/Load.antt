@@ -9,40 +9,43 @@ use Rattle.rack.specs.definitions.Tree.{Tree}
 use Rattle.rack.specs.definitions.Grow.{noTree, nodesWith, grown}
 use Rattle.rack.specs.definitions.Refusal.{nodeRefusal}
 use Rattle.rack.specs.declared.Range.{Range}
+use Rattle.seat.specs.definitions.Grants.{Grants, noGrants, seatWrong, seated}
 use Rattle.file_record.specs.declared.Class.{Class}
 use Rattle.file_record.specs.declared.Class.the-variants as class
 use Rattle.file_record.specs.definitions.Number.{byteIn}
-use Rattle.file_record.specs.definitions.Record.{sizeOf, classIn, isA, isRack, isKnown, cutShort, hostIn, nodeIn}
-use Rattle.file_record.specs.definitions.Events.{eventIn, eventWrong}
+use Rattle.file_record.specs.definitions.Record.{sizeOf, classIn, isA, isRack, isKnown, cutShort, hostIn, nodeIn, seatIn}
+use Rattle.file_record.specs.definitions.Events.{eventIn, eventWrong, eventUnknown}
 
 -- no host memory: 'first above last means none'
 abbrev pub noMemory : Range
 noMemory = record { first = 1; last = 0 }
 
--- what is known in front of a record: its offset, the offset at which the events begin (0 before the first), and the rack
+-- what is known in front of a record: its offset, the offset at which the events begin (0 before the first), the rack and its
+-- grants
 pub record Reading : Type 0 where
   pub offset : ℕ
   pub events : ℕ
   pub tree : Tree
+  pub grants : Grants
 
 abbrev pub atStart : Reading
-atStart = record { offset = 0; events = 0; tree = noTree noMemory }
+atStart = record { offset = 0; events = 0; tree = noTree noMemory; grants = noGrants }
 
 -- 4: 'the first is not a host, or a later one is'
 abbrev pub hostWrong : Class → ℕ → Bool
 hostWrong c o = cond (eqb o 0) (not (isA class.Host c)) (isA class.Host c)
 
--- 5: 'A rack record follows an event'
+-- 5: 'A rack record follows an event'; 02, E1: '5 covers kind 9'
 abbrev pub followsEvent : Class → ℕ → Bool
 followsEvent c events = isRack c && not (eqb events 0)
 
--- 2 to 5, of a record's kind, length and place; `known` are the classes that may be read
-abbrev pub shapeFaults : (Class → Bool) → List ℕ → Class → ℕ → ℕ → List ℕ
-shapeFaults known b c o events =
-    2 when not (known c) ∷ 3 when cutShort b o ∷ 4 when hostWrong c o ∷ 5 when followsEvent c events ∷ []
+-- 2 to 5, of a record's kind, length and place; `whole` says whether these are records of a whole file, or the rack bytes of a C call
+abbrev pub shapeFaults : Bool → List ℕ → Class → ℕ → ℕ → List ℕ
+shapeFaults whole b c o events =
+    2 when not (isKnown whole c) ∷ 3 when cutShort b o ∷ 4 when hostWrong c o ∷ 5 when followsEvent c events ∷ []
 
-unfoldable pub shapeFault : (Class → Bool) → List ℕ → Class → ℕ → ℕ → ℕ
-shapeFault known b c o events = first (shapeFaults known b c o events)
+unfoldable pub shapeFault : Bool → List ℕ → Class → ℕ → ℕ → ℕ
+shapeFault whole b c o events = first (shapeFaults whole b c o events)
 
 -- 6 to 10, of a node after those before it
 unfoldable pub nodeFault : List ℕ → ℕ → Tree → ℕ
@@ -52,16 +55,34 @@ nodeFault b o t = nodeRefusal (nodesWith t (nodeIn b o)) (t .count)
 abbrev pub fieldFault : List ℕ → ℕ → Tree → ℕ
 fieldFault b o t = 13 when eventWrong t (eventIn b o)
 
--- 01, 'Refused, in this order', of a record
-abbrev pub recordFaults : (Class → Bool) → List ℕ → Reading → List ℕ
-recordFaults known b s =
-    shapeFault known b (classIn b (s .offset)) (s .offset) (s .events)
+-- 14, of a seat record after the nodes and grants before it
+abbrev pub isFaulty : List ℕ → ℕ → Tree → Grants → Bool
+isFaulty b o t g = seatWrong (t .count) g (seatIn b o)
+
+abbrev pub seatFault : List ℕ → ℕ → Tree → Grants → ℕ
+seatFault b o t g = 14 when isFaulty b o t g
+
+-- 15, of an event
+abbrev pub unknownFault : List ℕ → ℕ → Grants → ℕ
+unknownFault b o g = 15 when eventUnknown g (eventIn b o)
+
+-- both of an event
+abbrev pub eventFault : List ℕ → ℕ → Tree → Grants → ℕ
+eventFault b o t g = fieldFault b o t or unknownFault b o g
+
+-- 01, 'Refused, in this order', of a record; 02, E1: 'both after 13'. A faulty seat record stops a whole file; in the rack bytes of a C
+-- call, where 14 comes after refusals that are found later, it is noted
+abbrev pub recordFaults : Bool → List ℕ → Reading → List ℕ
+recordFaults whole b s =
+    shapeFault whole b (classIn b (s .offset)) (s .offset) (s .events)
     ∷ nodeFault b (s .offset) (s .tree) when isA class.Node (classIn b (s .offset))
-    ∷ fieldFault b (s .offset) (s .tree) when isA class.Event (classIn b (s .offset)) ∷ []
+    ∷ fieldFault b (s .offset) (s .tree) when isA class.Event (classIn b (s .offset))
+    ∷ seatFault b (s .offset) (s .tree) (s .grants) when (whole && isA class.Seat (classIn b (s .offset)))
+    ∷ unknownFault b (s .offset) (s .grants) when isA class.Event (classIn b (s .offset)) ∷ []
 
 -- the first number that applies, 0 where none does
-unfoldable pub recordFault : (Class → Bool) → List ℕ → Reading → ℕ
-recordFault known b s = first (recordFaults known b s)
+unfoldable pub recordFault : Bool → List ℕ → Reading → ℕ
+recordFault whole b s = first (recordFaults whole b s)
 
 -- the record taken in
 unfoldable pub taken : List ℕ → Reading → Reading
@@ -72,38 +93,41 @@ taken b s =
       tree =
           cond (isA class.Host (classIn b (s .offset))) (noTree (hostIn b (s .offset)))
           (cond (isA class.Node (classIn b (s .offset))) (grown (s .tree) (nodeIn b (s .offset))) (s .tree));
+      grants =
+          cond (isA class.Seat (classIn b (s .offset))) (seated (s .tree .count) (s .grants) (seatIn b (s .offset))) (s .grants);
     }
 
--- a refusal and its offset; or 0, the offset at which the events begin or, without events, the records end, and the rack
+-- a refusal and its offset; or 0, the offset at which the events begin or, without events, the records end, the rack and its grants
 pub record Loading : Type 0 where
   pub refusal : ℕ
   pub offset : ℕ
   pub tree : Tree
+  pub grants : Grants
 
 abbrev pub loaded : Reading → Loading
-loaded s = record { refusal = 0; offset = s .events or s .offset; tree = s .tree }
+loaded s = record { refusal = 0; offset = s .events or s .offset; tree = s .tree; grants = s .grants }
 
 abbrev pub refused : ℕ → ℕ → Loading
-refused n o = record { refusal = n; offset = o; tree = noTree noMemory }
+refused n o = record { refusal = n; offset = o; tree = noTree noMemory; grants = noGrants }
 
 -- 01: 'A file stops at its first faulty record, with the record's offset': at most `left` records
-unfoldable pub readFrom : ℕ → (Class → Bool) → List ℕ → Reading → Loading
-readFrom zero known b s = loaded s
-readFrom (suc left) known b s =
+unfoldable pub readFrom : ℕ → Bool → List ℕ → Reading → Loading
+readFrom zero whole b s = loaded s
+readFrom (suc left) whole b s =
     cond (leb (length b) (s .offset)) (loaded s)
-    (cond (eqb (recordFault known b s) 0) (readFrom left known b (taken b s)) (refused (recordFault known b s) (s .offset)))
+    (cond (eqb (recordFault whole b s) 0) (readFrom left whole b (taken b s)) (refused (recordFault whole b s) (s .offset)))
 
 -- 1: 'The file is longer than 65,536 bytes', at 65,536; 4: 'There is no record', at 0. A record has at least one byte, so there are no
 -- more of them than bytes
-unfoldable pub readIn : (Class → Bool) → List ℕ → Loading
-readIn known b =
+unfoldable pub readIn : Bool → List ℕ → Loading
+readIn whole b =
     cond (ltb 65536 (length b)) (refused 1 65536)
-    (cond (eqb (length b) 0) (refused 4 0) (readFrom (length b) known b atStart))
+    (cond (eqb (length b) 0) (refused 4 0) (readFrom (length b) whole b atStart))
 
 -- a whole file
 abbrev pub fileIn : List ℕ → Loading
-fileIn b = readIn (isKnown true) b
+fileIn b = readIn true b
 
 -- 01: 'The two C calls take the rack records as bytes: 1 to 10 as for a file, an event kind there being 2'
 abbrev pub rackAlone : List ℕ → Loading
-rackAlone b = readIn (isKnown false) b
+rackAlone b = readIn false b

@@ -9,6 +9,7 @@ use Rattle.rack.specs.declared.Region.{Region}
 use Rattle.rack.specs.declared.Node.{Node}
 use Rattle.rack.specs.definitions.Node.{kindFrom, isBridge, noRegion}
 use Rattle.rack.specs.declared.Range.{Range}
+use Rattle.seat.specs.declared.SeatRecord.{SeatRecord}
 use Rattle.file_record.specs.declared.Class.{Class}
 use Rattle.file_record.specs.declared.Class.the-variants as class
 use Rattle.file_record.specs.definitions.Number.{byteIn, wordIn, qwordIn}
@@ -25,11 +26,13 @@ abbrev pub noForm : Form
 noForm = form class.Unknown 0
 
 -- 01: '1 host (16 bytes)', '2 bridge (6)', '3 device (12)', '4 configuration write (8)', '5 configuration read (3)', '6 memory
--- access (10)', '7 I/O access (6)', '8 check (0)'; 'Kinds 1 to 3 are rack records, 4 to 8 events'. 02, E11: 'Kind 13 has kind 2's body'
+-- access (10)', '7 I/O access (6)', '8 check (0)'; 'Kinds 1 to 3 are rack records, 4 to 8 events'. 02, E11: 'Kind 13 has kind 2's body'; E1: 'A seat
+-- record (kind 9: seat, node, two-byte mask ..) stands among the rack records', 'Event kind 10 (seat)'
 abbrev pub forms : List Form
 forms =
     noForm ∷ form class.Host 16 ∷ form class.Node 6 ∷ form class.Node 12 ∷ form class.Event 8 ∷ form class.Event 3
-    ∷ form class.Event 10 ∷ form class.Event 6 ∷ form class.Event 0 ∷ noForm ∷ noForm ∷ noForm ∷ noForm ∷ form class.Node 6 ∷ []
+    ∷ form class.Event 10 ∷ form class.Event 6 ∷ form class.Event 0 ∷ form class.Seat 4 ∷ form class.Event 1 ∷ noForm ∷ noForm
+    ∷ form class.Node 6 ∷ []
 
 unfoldable pub formOf : ℕ → Form
 formOf kind = getD forms kind noForm
@@ -46,17 +49,19 @@ abbrev pub classNumber : Class → ℕ
 classNumber class.Unknown = 0
 classNumber class.Host = 1
 classNumber class.Node = 2
-classNumber class.Event = 3
+classNumber class.Seat = 3
+classNumber class.Event = 4
 
 abbrev pub isA : Class → Class → Bool
 isA k c = eqb (classNumber k) (classNumber c)
 
 abbrev pub isRack : Class → Bool
-isRack c = isA class.Host c || isA class.Node c
+isRack c = (isA class.Host c || isA class.Node c) || isA class.Seat c
 
--- 2: 'The kind is not 1 to 8'; 02, E11: 'Kind 13 becomes known to refusal 2'; without events, in the rack records of a C call, 'an event kind there being 2'
+-- 2: 'The kind is not 1 to 8'; 02, E11: 'Kind 13 becomes known to refusal 2'; E1: 'Kinds 9 and 10 become known to refusal 2'; in the rack
+-- records of a C call, which are no whole file, 'an event kind there being 2'
 abbrev pub isKnown : Bool → Class → Bool
-isKnown events c = isRack c || (events && isA class.Event c)
+isKnown whole c = isRack c || (whole && isA class.Event c)
 
 -- 3: 'The body is cut short'
 unfoldable pub cutShort : List ℕ → ℕ → Bool
@@ -89,3 +94,7 @@ unfoldable pub nodeIn : List ℕ → ℕ → Node
 nodeIn b o =
     cond (isBridge (kindIn b o)) (nodeOf (kindIn b o) b o noRegion noRegion noRegion)
     (nodeOf (kindIn b o) b o (regionFrom b (o + 7)) (regionFrom b (o + 9)) (regionFrom b (o + 11)))
+
+-- 02, E1: 'kind 9: seat, node, two-byte mask'
+abbrev pub seatIn : List ℕ → ℕ → SeatRecord
+seatIn b o = record { seat = byteIn b (o + 1); node = byteIn b (o + 2); mask = wordIn b (o + 3) }

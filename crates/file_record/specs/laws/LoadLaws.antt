@@ -18,30 +18,29 @@ use Rattle.rack_laws.specs.laws.First.{at, list-none-given}
 use Rattle.rack_laws.specs.laws.OnePass.{StoredBy, none-stored, grown-stored}
 use Rattle.rack_laws.specs.laws.Stored.{by-stored}
 use Rattle.rack_laws.specs.laws.Grown.{none-accepted, grown-accepted}
-use Rattle.file_record.specs.declared.Class.{Class}
 use Rattle.file_record.specs.declared.Class.the-variants as class
 use Rattle.file_record.specs.definitions.Number.{byteIn}
-use Rattle.file_record.specs.definitions.Record.{sizeOf, classIn, isA, isKnown, hostIn, nodeIn}
+use Rattle.file_record.specs.definitions.Record.{sizeOf, classIn, isA, hostIn, nodeIn}
 use Rattle.file_record.specs.laws.RecordLaws.{host-size}
 use Rattle.file_record.specs.definitions.Load.{noMemory, Reading, nodeFault, recordFaults, recordFault, taken, readIn, fileIn, rackAlone}
 use Rattle.file_record.specs.laws.Steps.{shape-ends, shape-host}
 use Rattle.file_record.specs.laws.Turns.{read-over, read-empty, in-has}
 
 -- a record without a fault
-module _ (known : Class → Bool) (b : List ℕ) (s : Reading) where
-  none-applies : recordFault known b s ≡ 0 → (k : ℕ) → k < 3 → at (recordFaults known b s) k ≡ 0
+module _ (whole : Bool) (b : List ℕ) (s : Reading) where
+  pub none-applies : recordFault whole b s ≡ 0 → (k : ℕ) → k < 5 → at (recordFaults whole b s) k ≡ 0
   unfolding recordFault
-  none-applies z = list-none-given (recordFaults known b s) z
+  none-applies z = list-none-given (recordFaults whole b s) z
 
-  fault-node : recordFault known b s ≡ 0 → isA class.Node (classIn b (s .offset)) ≡ true → nodeFault b (s .offset) (s .tree) ≡ 0
+  fault-node : recordFault whole b s ≡ 0 → isA class.Node (classIn b (s .offset)) ≡ true → nodeFault b (s .offset) (s .tree) ≡ 0
   fault-node z k = rw k at (none-applies z 1 (lit< tt))
 
   -- ends within the file, and leaves an accepted rack
-  pub taken-inside : recordFault known b s ≡ 0 → taken b s .offset ≤ length b
+  pub taken-inside : recordFault whole b s ≡ 0 → taken b s .offset ≤ length b
   unfolding taken
-  taken-inside z = shape-ends known b (classIn b (s .offset)) (s .offset) (s .events) (none-applies z 0 (lit< tt))
+  taken-inside z = shape-ends whole b (classIn b (s .offset)) (s .offset) (s .events) (none-applies z 0 (lit< tt))
 
-  pub taken-accepted : rackRefusal (s .tree) ≡ 0 → recordFault known b s ≡ 0 → rackRefusal (taken b s .tree) ≡ 0
+  pub taken-accepted : rackRefusal (s .tree) ≡ 0 → recordFault whole b s ≡ 0 → rackRefusal (taken b s .tree) ≡ 0
   unfolding taken nodeFault
   taken-accepted ok z =
       tested (isA class.Host (classIn b (s .offset))) (λ h. rw h (none-accepted (hostIn b (s .offset))))
@@ -57,18 +56,18 @@ module _ (known : Class → Bool) (b : List ℕ) (s : Reading) where
       tested (isA class.Node (classIn b (s .offset))) (λ k. rw (h, k) (grown-stored (s .tree) (nodeIn b (s .offset)) p)) (λ k. rw (h, k) p))
 
   -- the first record is a host, and none after it is
-  first-host : recordFault known b s ≡ 0 → s .offset ≡ 0 → isA class.Host (classIn b (s .offset)) ≡ true
+  pub first-host : recordFault whole b s ≡ 0 → s .offset ≡ 0 → isA class.Host (classIn b (s .offset)) ≡ true
   first-host z e =
-      let h = shape-host known b (classIn b (s .offset)) (s .offset) (s .events) (none-applies z 0 (lit< tt)) in
+      let h = shape-host whole b (classIn b (s .offset)) (s .offset) (s .events) (none-applies z 0 (lit< tt)) in
       not-false (isA class.Host (classIn b (s .offset))) (rw (eq-eqb (s .offset) 0 e) at h)
 
-  later-host : recordFault known b s ≡ 0 → (s .offset ≡ 0 → ⊥) → isA class.Host (classIn b (s .offset)) ≡ false
+  later-host : recordFault whole b s ≡ 0 → (s .offset ≡ 0 → ⊥) → isA class.Host (classIn b (s .offset)) ≡ false
   later-host z e =
-      let h = shape-host known b (classIn b (s .offset)) (s .offset) (s .events) (none-applies z 0 (lit< tt)) in
+      let h = shape-host whole b (classIn b (s .offset)) (s .offset) (s .events) (none-applies z 0 (lit< tt)) in
       rw (ne-eqb (s .offset) 0 e) at h
 
   -- so after it host memory is the first record's
-  taken-host : (0 < s .offset → s .tree .hostMemory ≡ hostIn b 0) → recordFault known b s ≡ 0
+  taken-host : (0 < s .offset → s .tree .hostMemory ≡ hostIn b 0) → recordFault whole b s ≡ 0
       → taken b s .tree .hostMemory ≡ hostIn b 0
   unfolding taken grown
   taken-host p z =
@@ -80,7 +79,7 @@ module _ (known : Class → Bool) (b : List ℕ) (s : Reading) where
       tested (isA class.Node (classIn b (s .offset))) (λ k. rw (later-host z e, k) h) (λ k. rw (later-host z e, k) h))
 
   -- and the next record begins at 17 or later
-  taken-behind : (s .offset ≡ 0) ⊎ (17 ≤ s .offset) → recordFault known b s ≡ 0 → 17 ≤ taken b s .offset
+  taken-behind : (s .offset ≡ 0) ⊎ (17 ≤ s .offset) → recordFault whole b s ≡ 0 → 17 ≤ taken b s .offset
   unfolding taken
   taken-behind p z =
       ⊎-elim (λ e. omega (arith, host-size (byteIn b (s .offset)) (first-host z e))) (λ h. omega arith) p
@@ -91,7 +90,7 @@ record Within (b : List ℕ) (s : Reading) : Type 0 where
   here : (s .offset ≡ 0) ⊎ (17 ≤ s .offset)
   events : (s .events ≡ 0) ⊎ ((17 ≤ s .events) × (s .events ≤ s .offset))
 
-module _ (known : Class → Bool) (b : List ℕ) (s : Reading) (p : Within b s) (z : recordFault known b s ≡ 0) where
+module _ (whole : Bool) (b : List ℕ) (s : Reading) (p : Within b s) (z : recordFault whole b s ≡ 0) where
   events-within : (taken b s .events ≡ 0) ⊎ ((17 ≤ taken b s .events) × (taken b s .events ≤ taken b s .offset))
   unfolding taken
   events-within =
@@ -108,41 +107,41 @@ module _ (known : Class → Bool) (b : List ℕ) (s : Reading) (p : Within b s) 
 
   taken-within : Within b (taken b s)
   taken-within =
-      record { inside = taken-inside known b s z; here = inr (taken-behind known b s (p .here) z); events = events-within }
+      record { inside = taken-inside whole b s z; here = inr (taken-behind whole b s (p .here) z); events = events-within }
 
-module _ (known : Class → Bool) (b : List ℕ) where
-  pub read-accepted : readIn known b .refusal ≡ 0 → rackRefusal (readIn known b .tree) ≡ 0
+module _ (whole : Bool) (b : List ℕ) where
+  pub read-accepted : readIn whole b .refusal ≡ 0 → rackRefusal (readIn whole b .tree) ≡ 0
   read-accepted =
-      in-has known b (λ s. rackRefusal (s .tree) ≡ 0) (λ d. d .refusal ≡ 0 → rackRefusal (d .tree) ≡ 0)
-      (λ s p i z. taken-accepted known b s p z) (λ s p e q. p) (λ s p i z q. absurd (z q))
+      in-has whole b (λ s. rackRefusal (s .tree) ≡ 0) (λ d. d .refusal ≡ 0 → rackRefusal (d .tree) ≡ 0)
+      (λ s p i z. taken-accepted whole b s p z) (λ s p e q. p) (λ s p i z q. absurd (z q))
       (λ h e. none-accepted noMemory) (λ h q. none-accepted noMemory) (λ e q. none-accepted noMemory)
 
-  pub read-stored : readIn known b .refusal ≡ 0 → Stored (readIn known b .tree)
-  read-stored z = by-stored (readIn known b .tree) (stored z) (read-accepted z)
+  pub read-stored : readIn whole b .refusal ≡ 0 → Stored (readIn whole b .tree)
+  read-stored z = by-stored (readIn whole b .tree) (stored z) (read-accepted z)
     where
-      stored : readIn known b .refusal ≡ 0 → StoredBy (readIn known b .tree)
+      stored : readIn whole b .refusal ≡ 0 → StoredBy (readIn whole b .tree)
       stored =
-          in-has known b (λ s. StoredBy (s .tree)) (λ d. d .refusal ≡ 0 → StoredBy (d .tree))
-          (λ s p i z. taken-stored known b s p) (λ s p e q. p) (λ s p i z q. absurd (z q))
+          in-has whole b (λ s. StoredBy (s .tree)) (λ d. d .refusal ≡ 0 → StoredBy (d .tree))
+          (λ s p i z. taken-stored whole b s p) (λ s p e q. p) (λ s p i z q. absurd (z q))
           (λ h e. none-stored noMemory) (λ h q. none-stored noMemory) (λ e q. none-stored noMemory)
 
   -- a file that is read has 1 to 65,536 bytes
-  pub read-long : readIn known b .refusal ≡ 0 → length b ≤ 65536
+  pub read-long : readIn whole b .refusal ≡ 0 → length b ≤ 65536
   read-long z =
       tested (ltb 65536 (length b))
       (λ q.
-      let e : _≡_ {A = ℕ} 1 0 = rw (read-over known b (ltb-true 65536 (length b) q)) at z in
+      let e : _≡_ {A = ℕ} 1 0 = rw (read-over whole b (ltb-true 65536 (length b) q)) at z in
       absurd (omega arith))
       (λ q. ltb-false 65536 (length b) q)
 
-  pub read-some : readIn known b .refusal ≡ 0 → length b ≡ 0 → ⊥
-  read-some z h = let e : _≡_ {A = ℕ} 4 0 = rw (read-empty known b h) at z in omega arith
+  pub read-some : readIn whole b .refusal ≡ 0 → length b ≡ 0 → ⊥
+  read-some z h = let e : _≡_ {A = ℕ} 4 0 = rw (read-empty whole b h) at z in omega arith
 
   -- and a refusal stands within the longest file
-  pub read-offset : readIn known b .offset ≤ 65536
+  pub read-offset : readIn whole b .offset ≤ 65536
   read-offset =
-      in-has known b (λ s. Within b s × (length b ≤ 65536)) (λ d. d .offset ≤ 65536)
-      (λ s p i f. (taken-within known b s (p .0) f, p .1)) (λ s p e. ended s (p .0) (p .1)) (λ s p i f. omega (arith, p .1))
+      in-has whole b (λ s. Within b s × (length b ≤ 65536)) (λ d. d .offset ≤ 65536)
+      (λ s p i f. (taken-within whole b s (p .0) f, p .1)) (λ s p e. ended s (p .0) (p .1)) (λ s p i f. omega (arith, p .1))
       (λ h e. (record { inside = omega arith; here = inl refl; events = inl refl }, h)) (λ h. omega arith) (λ e. omega arith)
     where
       ended : (s : Reading) → Within b s → length b ≤ 65536 → s .events or s .offset ≤ 65536
@@ -151,30 +150,30 @@ module _ (known : Class → Bool) (b : List ℕ) where
           (λ o. rw (ne-eqb (s .events) 0 (λ q. omega (arith, o .0))) (omega (arith, o .1, p .inside))) (p .events)
 
   -- its host memory is the first record's
-  pub read-host : readIn known b .refusal ≡ 0 → readIn known b .tree .hostMemory ≡ hostIn b 0
+  pub read-host : readIn whole b .refusal ≡ 0 → readIn whole b .tree .hostMemory ≡ hostIn b 0
   read-host z =
-      in-has known b (λ s. (0 < s .offset → s .tree .hostMemory ≡ hostIn b 0) × (length b ≡ 0 → ⊥))
+      in-has whole b (λ s. (0 < s .offset → s .tree .hostMemory ≡ hostIn b 0) × (length b ≡ 0 → ⊥))
       (λ d. (length b ≡ 0 → ⊥) → d .refusal ≡ 0 → d .tree .hostMemory ≡ hostIn b 0)
-      (λ s p i f. (λ h. taken-host known b s (p .0) f, p .1)) (λ s p e n q. p .0 (omega (arith, n))) (λ s p i f n q. absurd (f q))
+      (λ s p i f. (λ h. taken-host whole b s (p .0) f, p .1)) (λ s p e n q. p .0 (omega (arith, n))) (λ s p i f n q. absurd (f q))
       (λ h e. (λ q. absurd (omega arith), e)) (λ h n q. absurd (omega (arith, q))) (λ e n. absurd (n e)) (read-some z) z
 
 -- the same of a whole file, and of the rack bytes of a C call
 module _ (b : List ℕ) where
   pub alone-accepted : rackAlone b .refusal ≡ 0 → rackRefusal (rackAlone b .tree) ≡ 0
-  alone-accepted = read-accepted (isKnown false) b
+  alone-accepted = read-accepted false b
 
   pub alone-stored : rackAlone b .refusal ≡ 0 → Stored (rackAlone b .tree)
-  alone-stored = read-stored (isKnown false) b
+  alone-stored = read-stored false b
 
   pub file-accepted : fileIn b .refusal ≡ 0 → rackRefusal (fileIn b .tree) ≡ 0
-  file-accepted = read-accepted (isKnown true) b
+  file-accepted = read-accepted true b
 
   pub file-stored : fileIn b .refusal ≡ 0 → Stored (fileIn b .tree)
-  file-stored = read-stored (isKnown true) b
+  file-stored = read-stored true b
 
   pub file-long : fileIn b .refusal ≡ 0 → length b ≤ 65536
-  file-long = read-long (isKnown true) b
+  file-long = read-long true b
 
   -- the offset of a refusal, and the offset at which an accepted file's events begin
   pub file-offset : fileIn b .offset ≤ 65536
-  file-offset = read-offset (isKnown true) b
+  file-offset = read-offset true b

@@ -1,6 +1,6 @@
 -- The steps of a walk past one record.
 use mathlib.Core.Path.{_≡_, refl, sym, ap, _∙_}
-use mathlib.Core.Bool.{Bool, true, false, _&&_, true≢false, false≢true}
+use mathlib.Core.Bool.{Bool, true, false, _&&_, and-false, and-true, true≢false, false≢true}
 use mathlib.Core.List.{List, [], _∷_}
 use Prim.Native.Nat.{ℕ, _+_, _≤_, _<_}
 use native.Mathlib.Omega.{arith}
@@ -8,30 +8,34 @@ use lib.Dec.{lit<}
 use lib.ListN.{length, getD}
 use borrow.Author.Tests.{eq-eqb, eqb-true, ltb-false, not-false}
 use Rattle.rack.specs.declared.Node.{Node}
-use Rattle.rack.specs.definitions.First.{_or_, first}
-use Rattle.rack.specs.laws.FirstLaws.{when-not, or-last, chain-found}
+use Rattle.rack.specs.definitions.First.{_when_, _or_, first}
+use Rattle.rack.specs.laws.FirstLaws.{when-not, or-last, or-next, chain-found}
 use Rattle.rack.specs.definitions.Tree.{Tree}
 use Rattle.rack.specs.definitions.Table.{treeOf}
 use Rattle.rack.specs.definitions.Grow.{noTree, grown}
 use Rattle.rack.specs.definitions.Refusal.{nodeRefusal, rackRefusal}
 use Rattle.rack_laws.specs.laws.First.{at, list-none-given}
 use Rattle.rack_laws.specs.laws.Grown.{grown-full}
+use Rattle.rack_laws.specs.laws.Sound.{nodes-le}
 use Rattle.rack.specs.declared.Range.{Range}
+use Rattle.seat.specs.definitions.Grants.{Grants, seatWrong, granting, faulty, seated}
+use Rattle.seat.specs.declared.SeatRecord.{SeatRecord}
+use Rattle.seat.specs.definitions.Table.{grantsOf}
 use Rattle.file_record.specs.declared.Class.{Class}
 use Rattle.file_record.specs.declared.Class.the-variants as class
 use Rattle.file_record.specs.declared.Event.{Event}
 use Rattle.file_record.specs.declared.Walk.{Walk}
 use Rattle.file_record.specs.definitions.Number.{byteIn}
-use Rattle.file_record.specs.definitions.Record.{sizeOf, classIn, classNumber, isA, isKnown, cutShort, hostIn, nodeIn}
-use Rattle.file_record.specs.definitions.Events.{eventIn, eventWrong}
-use Rattle.file_record.specs.definitions.Load.{Reading, hostWrong, shapeFaults, shapeFault, nodeFault, fieldFault, recordFault, taken}
+use Rattle.file_record.specs.definitions.Record.{sizeOf, classIn, classNumber, isA, isKnown, cutShort, hostIn, nodeIn, seatIn}
+use Rattle.file_record.specs.definitions.Events.{eventIn, eventWrong, eventUnknown}
+use Rattle.file_record.specs.definitions.Load.{Reading, hostWrong, shapeFaults, shapeFault, nodeFault, fieldFault, seatFault, unknownFault, eventFault, recordFault, taken}
 use Rattle.file_record.specs.definitions.Loads.{readingOf, Steps}
 
 -- a number is that of one class alone
 numbered : ℕ → Class
-numbered n = getD (class.Unknown ∷ class.Host ∷ class.Node ∷ class.Event ∷ []) n class.Unknown
+numbered n = getD (class.Unknown ∷ class.Host ∷ class.Node ∷ class.Seat ∷ class.Event ∷ []) n class.Unknown
 
-is-a : (k c : Class) → isA k c ≡ true → c ≡ k
+pub is-a : (k c : Class) → isA k c ≡ true → c ≡ k
 unfolding numbered
 is-a k c e =
     let q : classNumber c ≡ classNumber k = sym (eqb-true (classNumber k) (classNumber c) e) in
@@ -41,6 +45,7 @@ is-a k c e =
     number-of class.Unknown = refl
     number-of class.Host = refl
     number-of class.Node = refl
+    number-of class.Seat = refl
     number-of class.Event = refl
 
 -- the class at an offset, as a function has tested it
@@ -48,8 +53,8 @@ pub class-told : (b : List ℕ) (o : ℕ) (k : Class) {c : Class} {x : Bool} →
 class-told b o k is e h = rw (← is) (sym e ∙ h)
 
 -- a step that stops
-pub step-stops : {r : Walk} {table : List ℕ} {f fault : ℕ} {next : Reading} → r .refusal ≡ f → f ≡ fault → (f ≡ 0 → ⊥)
-    → Steps r table fault next
+pub step-stops : {r : Walk} {table grants : List ℕ} {f fault : ℕ} {next : Reading} → r .refusal ≡ f → f ≡ fault → (f ≡ 0 → ⊥)
+    → Steps r table grants fault next
 step-stops n e z = record { refusal = n ∙ e; reading = λ q. absurd (z (e ∙ q)) }
 
 -- 6 to 10 of a node: after 96 of them each is one too many
@@ -66,12 +71,44 @@ module _ (b : List ℕ) (o : ℕ) (t : Tree) where
   pub node-added : {u : Tree} {n : Node} → n ≡ nodeIn b o → u ≡ grown t n → u ≡ grown t (nodeIn b o)
   node-added n g = rw (← n) g
 
+-- an accepted rack has at most 96 nodes
+pub few-nodes : (t : Tree) {k : ℕ} → k ≡ t .count → rackRefusal t ≡ 0 → k ≤ 96
+few-nodes t e ok = omega (arith, e, nodes-le t ok)
+
+-- 14 of a seat record, which stops a whole file and is noted in the rack bytes of a call; n nodes are before it
+module _ (b : List ℕ) (o n : ℕ) (g : Grants) {k : ℕ} {r : SeatRecord} {x : Bool} (e : r ≡ seatIn b o) (c : k ≡ n)
+    (w : x ≡ seatWrong k g r) where
+  told : x ≡ seatWrong n g (seatIn b o)
+  told = rw (← e, ← c) w
+
+  pub seat-none : (whole : Bool) → x ≡ false → 0 ≡ (14 when seatWrong n g (seatIn b o)) when whole
+  seat-none true z = rw (← told, z)
+  seat-none false z = refl
+
+  pub seat-stops : (whole : Bool) → x ≡ true → whole ≡ true → 14 ≡ (14 when seatWrong n g (seatIn b o)) when whole
+  seat-stops whole z h = rw (h, ← told, z)
+
+  pub seat-granted : {u : Grants} → x ≡ false → u ≡ granting g r → u ≡ seated n g (seatIn b o)
+  unfolding seated
+  seat-granted z d = rw (← told, z) (d ∙ ap (granting g) e)
+
+  pub seat-noted : {u : Grants} → x ≡ true → u ≡ faulty g → u ≡ seated n g (seatIn b o)
+  unfolding seated
+  seat-noted z d = rw (← told, z) d
+
+pub seat-passed : (m : ℕ) (whole : Bool) → whole ≡ false → 0 ≡ m when whole
+seat-passed m whole h = rw h
+
+-- a seat record that a function has found right
+pub seat-right : (k : ℕ) (g : Grants) (r : SeatRecord) {x : Bool} → x ≡ seatWrong k g r → x ≡ false → seatWrong k g r ≡ false
+seat-right k g r w z = sym w ∙ z
+
 -- a record that is taken in
-module _ (b : List ℕ) (w : Walk) (table : List ℕ) {o : ℕ} (past : o ≡ w .offset + sizeOf (byteIn b (w .offset))) where
+module _ (b : List ℕ) (w : Walk) (table grants : List ℕ) {o : ℕ} (past : o ≡ w .offset + sizeOf (byteIn b (w .offset))) where
   pub node-past : {after : List ℕ} {f : ℕ} → isA class.Node (classIn b (w .offset)) ≡ true
       → (f ≡ nodeFault b (w .offset) (treeOf table)) × (f ≡ 0 → treeOf after ≡ grown (treeOf table) (nodeIn b (w .offset))) → f ≡ 0
-      → Steps (record { refusal = 0; offset = o; events = w .events }) after (nodeFault b (w .offset) (treeOf table))
-      (taken b (readingOf w table))
+      → Steps (record { refusal = 0; offset = o; events = w .events }) after grants (nodeFault b (w .offset) (treeOf table))
+      (taken b (readingOf w table grants))
   unfolding taken
   node-past k e z =
       record {
@@ -79,20 +116,30 @@ module _ (b : List ℕ) (w : Walk) (table : List ℕ) {o : ℕ} (past : o ≡ w 
         reading = λ q. rw (is-a class.Node (classIn b (w .offset)) k, past, e .1 z);
       }
 
-  pub event-past : {e : Event} {x : Bool} {k : ℕ} → isA class.Event (classIn b (w .offset)) ≡ true → e ≡ eventIn b (w .offset)
-      → x ≡ eventWrong (treeOf table) e → x ≡ false → k ≡ w .events or w .offset
-      → Steps (record { refusal = 0; offset = o; events = k }) table (fieldFault b (w .offset) (treeOf table))
-      (taken b (readingOf w table))
+  pub seat-past : {after : List ℕ} {f fault : ℕ} → isA class.Seat (classIn b (w .offset)) ≡ true
+      → (f ≡ fault) × (f ≡ 0 → grantsOf after ≡ seated (treeOf table .count) (grantsOf grants) (seatIn b (w .offset))) → f ≡ 0
+      → Steps (record { refusal = 0; offset = o; events = w .events }) table after fault (taken b (readingOf w table grants))
   unfolding taken
-  event-past c e x z k =
+  seat-past k e z =
       record {
-        refusal = rw (← e, ← x, z);
+        refusal = sym z ∙ e .0;
+        reading = λ q. rw (is-a class.Seat (classIn b (w .offset)) k, past, e .1 z);
+      }
+
+  pub event-past : {e : Event} {x y : Bool} {k : ℕ} → isA class.Event (classIn b (w .offset)) ≡ true → e ≡ eventIn b (w .offset)
+      → x ≡ eventWrong (treeOf table) e → x ≡ false → y ≡ eventUnknown (grantsOf grants) e → y ≡ false → k ≡ w .events or w .offset
+      → Steps (record { refusal = 0; offset = o; events = k }) table grants (eventFault b (w .offset) (treeOf table) (grantsOf grants))
+      (taken b (readingOf w table grants))
+  unfolding taken
+  event-past c e x z y u k =
+      record {
+        refusal = rw (← e, ← x, z, ← y, u);
         reading = λ q. rw (is-a class.Event (classIn b (w .offset)) c, past, k);
       }
 
   pub host-past : {after : List ℕ} {h : Range} → isA class.Host (classIn b (w .offset)) ≡ true → h ≡ hostIn b (w .offset)
       → treeOf after ≡ noTree h
-      → Steps (record { refusal = 0; offset = o; events = w .events }) after 0 (taken b (readingOf w table))
+      → Steps (record { refusal = 0; offset = o; events = w .events }) after grants 0 (taken b (readingOf w table grants))
   unfolding taken
   host-past c e t =
       record {
@@ -100,56 +147,70 @@ module _ (b : List ℕ) (w : Walk) (table : List ℕ) {o : ℕ} (past : o ≡ w 
         reading = λ q. rw (is-a class.Host (classIn b (w .offset)) c, past, t, e);
       }
 
--- 13 of an event
-pub event-stops : (b : List ℕ) (o : ℕ) (t : Tree) {r : Walk} {table : List ℕ} {e : Event} {x : Bool} {next : Reading}
-    → e ≡ eventIn b o → x ≡ eventWrong t e → x ≡ true → r .refusal ≡ 13 → Steps r table (fieldFault b o t) next
-event-stops b o t e x z n = step-stops n (rw (← e, ← x, z)) (λ q. omega (arith, q))
+-- 13 of an event, and 15 where there is no 13
+module _ (b : List ℕ) (o : ℕ) (t : Tree) (g : Grants) {r : Walk} {table grants : List ℕ} {e : Event} {x : Bool} {next : Reading}
+    (at : e ≡ eventIn b o) (w : x ≡ eventWrong t e) where
+  pub event-stops : x ≡ true → r .refusal ≡ 13 → Steps r table grants (eventFault b o t g) next
+  event-stops z n = step-stops n (rw (← at, ← w, z)) (λ q. omega (arith, q))
+
+  pub unknown-stops : {y : Bool} → x ≡ false → y ≡ eventUnknown g e → y ≡ true → r .refusal ≡ 15 → Steps r table grants (eventFault b o t g) next
+  unknown-stops z u v n = step-stops n (rw (← at, ← w, z, ← u, v)) (λ q. omega (arith, q))
 
 -- a record's fault, by its class
-module _ (known : Class → Bool) (b : List ℕ) (s : Reading) {f : ℕ} {c : Class}
-    (shape : f ≡ shapeFault known b c (s .offset) (s .events)) (is : c ≡ classIn b (s .offset)) where
-  shape-is : f ≡ shapeFault known b (classIn b (s .offset)) (s .offset) (s .events)
+module _ (whole : Bool) (b : List ℕ) (s : Reading) {f : ℕ} {c : Class}
+    (shape : f ≡ shapeFault whole b c (s .offset) (s .events)) (is : c ≡ classIn b (s .offset)) where
+  shape-is : f ≡ shapeFault whole b (classIn b (s .offset)) (s .offset) (s .events)
   shape-is = rw (← is) shape
 
-  pub shape-stops : {r : Walk} {table : List ℕ} {next : Reading} → (f ≡ 0 → ⊥) → r .refusal ≡ f
-      → Steps r table (recordFault known b s) next
+  pub shape-stops : {r : Walk} {table grants : List ℕ} {next : Reading} → (f ≡ 0 → ⊥) → r .refusal ≡ f
+      → Steps r table grants (recordFault whole b s) next
   unfolding recordFault
   shape-stops z n = step-stops n (chain-found _ _ shape-is z) z
 
   module _ (none : f ≡ 0) where
-    fault-node : classIn b (s .offset) ≡ class.Node → recordFault known b s ≡ nodeFault b (s .offset) (s .tree)
+    fault-node : classIn b (s .offset) ≡ class.Node → recordFault whole b s ≡ nodeFault b (s .offset) (s .tree)
     unfolding recordFault first
-    fault-node k = rw (eq-eqb _ 0 (sym shape-is ∙ none), k) (or-last (nodeFault b (s .offset) (s .tree)))
+    fault-node k = rw (eq-eqb _ 0 (sym shape-is ∙ none), k, and-false whole) (or-last (nodeFault b (s .offset) (s .tree)))
 
-    fault-event : classIn b (s .offset) ≡ class.Event → recordFault known b s ≡ fieldFault b (s .offset) (s .tree)
+    fault-event : classIn b (s .offset) ≡ class.Event → recordFault whole b s ≡ eventFault b (s .offset) (s .tree) (s .grants)
     unfolding recordFault first
-    fault-event k = rw (eq-eqb _ 0 (sym shape-is ∙ none), k) (or-last (fieldFault b (s .offset) (s .tree)))
+    fault-event k =
+        rw (eq-eqb _ 0 (sym shape-is ∙ none), k, and-false whole)
+        (ap (λ n. fieldFault b (s .offset) (s .tree) or n) (or-last (unknownFault b (s .offset) (s .grants))))
 
-    fault-host : isA class.Node (classIn b (s .offset)) ≡ false → isA class.Event (classIn b (s .offset)) ≡ false → recordFault known b s ≡ 0
+    fault-seat : classIn b (s .offset) ≡ class.Seat → recordFault whole b s ≡ seatFault b (s .offset) (s .tree) (s .grants) when whole
     unfolding recordFault first
-    fault-host k l = rw (eq-eqb _ 0 (sym shape-is ∙ none), k, l)
+    fault-seat k = rw (eq-eqb _ 0 (sym shape-is ∙ none), k, and-true whole) (or-last (seatFault b (s .offset) (s .tree) (s .grants) when whole))
 
-    module _ {r : Walk} {table : List ℕ} {next : Reading} {x : Bool} where
-      pub node-goes : x ≡ isA class.Node c → x ≡ true → Steps r table (nodeFault b (s .offset) (s .tree)) next
-          → Steps r table (recordFault known b s) next
+    fault-host : classIn b (s .offset) ≡ class.Host → recordFault whole b s ≡ 0
+    unfolding recordFault first
+    fault-host k = rw (eq-eqb _ 0 (sym shape-is ∙ none), k, and-false whole)
+
+    module _ {r : Walk} {table grants : List ℕ} {next : Reading} {x : Bool} where
+      pub node-goes : x ≡ isA class.Node c → x ≡ true → Steps r table grants (nodeFault b (s .offset) (s .tree)) next
+          → Steps r table grants (recordFault whole b s) next
       node-goes e h p = rw (fault-node (is-a class.Node (classIn b (s .offset)) (rw is at (sym e ∙ h)))) p
 
-      pub event-goes : x ≡ isA class.Event c → x ≡ true → Steps r table (fieldFault b (s .offset) (s .tree)) next
-          → Steps r table (recordFault known b s) next
+      pub seat-goes : x ≡ isA class.Seat c → x ≡ true → Steps r table grants (seatFault b (s .offset) (s .tree) (s .grants) when whole) next
+          → Steps r table grants (recordFault whole b s) next
+      seat-goes e h p = rw (fault-seat (is-a class.Seat (classIn b (s .offset)) (rw is at (sym e ∙ h)))) p
+
+      pub event-goes : x ≡ isA class.Event c → x ≡ true → Steps r table grants (eventFault b (s .offset) (s .tree) (s .grants)) next
+          → Steps r table grants (recordFault whole b s) next
       event-goes e h p = rw (fault-event (is-a class.Event (classIn b (s .offset)) (rw is at (sym e ∙ h)))) p
 
-      pub host-goes : {y : Bool} → x ≡ isA class.Node c → x ≡ false → y ≡ isA class.Event c → y ≡ false → Steps r table 0 next
-          → Steps r table (recordFault known b s) next
-      host-goes e h i j p = rw (fault-host (rw is at (sym e ∙ h)) (rw is at (sym i ∙ j))) p
+    pub host-goes : {r : Walk} {table grants : List ℕ} {next : Reading} → isA class.Host (classIn b (s .offset)) ≡ true
+        → Steps r table grants 0 next → Steps r table grants (recordFault whole b s) next
+    host-goes h p = rw (fault-host (is-a class.Host (classIn b (s .offset)) h)) p
 
 -- a shape without a fault
-module _ (known : Class → Bool) (b : List ℕ) (c : Class) (o events : ℕ) (z : shapeFault known b c o events ≡ 0) where
-  tests-fail : (k : ℕ) → k < 4 → at (shapeFaults known b c o events) k ≡ 0
+module _ (whole : Bool) (b : List ℕ) (c : Class) (o events : ℕ) (z : shapeFault whole b c o events ≡ 0) where
+  tests-fail : (k : ℕ) → k < 4 → at (shapeFaults whole b c o events) k ≡ 0
   unfolding shapeFault
-  tests-fail = list-none-given (shapeFaults known b c o events) z
+  tests-fail = list-none-given (shapeFaults whole b c o events) z
 
-  pub shape-known : known c ≡ true
-  shape-known = not-false (known c) (when-not 2 _ (λ e. omega (arith, e)) (tests-fail 0 (lit< tt)))
+  pub shape-known : isKnown whole c ≡ true
+  shape-known = not-false (isKnown whole c) (when-not 2 _ (λ e. omega (arith, e)) (tests-fail 0 (lit< tt)))
 
   pub shape-ends : o + sizeOf (byteIn b o) ≤ length b
   unfolding cutShort
@@ -158,19 +219,21 @@ module _ (known : Class → Bool) (b : List ℕ) (c : Class) (o events : ℕ) (z
   pub shape-host : hostWrong c o ≡ false
   shape-host = when-not 4 _ (λ e. omega (arith, e)) (tests-fail 2 (lit< tt))
 
--- what is known and is no node and no event is a host
-pub host-left : (known : Bool) (b : List ℕ) (o events : ℕ) {c : Class} {f : ℕ} {x y : Bool} → c ≡ classIn b o
-    → f ≡ shapeFault (isKnown known) b c o events → f ≡ 0 → x ≡ isA class.Node c → x ≡ false → y ≡ isA class.Event c → y ≡ false
-    → isA class.Host (classIn b o) ≡ true
-host-left known b o events {c} is s z e h i j =
-    rw (← is) (left c (shape-known (isKnown known) b c o events (sym s ∙ z)) (sym e ∙ h) (sym i ∙ j))
+-- what is known and is no node, no seat record and no event is a host
+pub host-left : (whole : Bool) (b : List ℕ) (o events : ℕ) {c : Class} {f : ℕ} {x y z : Bool} → c ≡ classIn b o
+    → f ≡ shapeFault whole b c o events → f ≡ 0 → x ≡ isA class.Node c → x ≡ false → y ≡ isA class.Event c → y ≡ false
+    → z ≡ isA class.Seat c → z ≡ false → isA class.Host (classIn b o) ≡ true
+host-left whole b o events {c} is s n e h i j k l =
+    rw (← is) (left c (shape-known whole b c o events (sym s ∙ n)) (sym e ∙ h) (sym i ∙ j) (sym k ∙ l))
   where
-    left : (c : Class) → isKnown known c ≡ true → isA class.Node c ≡ false → isA class.Event c ≡ false → isA class.Host c ≡ true
-    left class.Unknown k n e = absurd (none known k)
+    left : (c : Class) → isKnown whole c ≡ true → isA class.Node c ≡ false → isA class.Event c ≡ false → isA class.Seat c ≡ false
+        → isA class.Host c ≡ true
+    left class.Unknown k n e s = absurd (none whole k)
       where
         none : (k : Bool) → k && false ≡ true → ⊥
         none true e = false≢true e
         none false e = false≢true e
-    left class.Host k n e = refl
-    left class.Node k n e = absurd (true≢false n)
-    left class.Event k n e = absurd (true≢false e)
+    left class.Host k n e s = refl
+    left class.Node k n e s = absurd (true≢false n)
+    left class.Seat k n e s = absurd (true≢false s)
+    left class.Event k n e s = absurd (true≢false e)

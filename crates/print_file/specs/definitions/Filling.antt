@@ -5,10 +5,11 @@ use mathlib.Core.List.{List, [], _++_}
 use lib.Dec.{leb, ltb}
 use lib.ListN.{length, drop}
 use Rattle.rack.specs.definitions.Tree.{Tree}
+use Rattle.seat.specs.definitions.Grants.{Grants, acting}
 use Rattle.register_image.specs.definitions.Image.{Images, Result}
 use Rattle.file_record.specs.definitions.Number.{byteIn}
 use Rattle.file_record.specs.definitions.Record.{sizeOf}
-use Rattle.file_record.specs.definitions.Events.{eventIn}
+use Rattle.file_record.specs.definitions.Events.{eventIn, seatAfter}
 use Rattle.event_run.specs.declared.Answer.{Answer}
 use Rattle.event_run.specs.definitions.Run.{eventRun}
 use Rattle.print_file.specs.declared.Cursor.{Cursor}
@@ -28,33 +29,38 @@ stop at im = record { text = []; next = at; after = im }
 abbrev pub behind : List ℕ → Part → Part
 behind line p = record { text = line ++ p .text; next = p .next; after = p .after }
 
--- the cursor after the event at a cursor
+-- the cursor after the event at a cursor; 02, E1: 'Event kind 10 (seat) says who acts from then on'
 abbrev pub past : List ℕ → Cursor → Cursor
-past b at = record { offset = at .offset + sizeOf (byteIn b (at .offset)); number = at .number + 1 }
+past b at =
+    record {
+      offset = at .offset + sizeOf (byteIn b (at .offset));
+      number = at .number + 1;
+      seat = seatAfter (at .seat) (eventIn b (at .offset));
+    }
 
 -- the event at a cursor, run
-abbrev pub ranAt : Tree → List ℕ → Cursor → Images → Result Answer
-ranAt t b at im = eventRun t im (eventIn b (at .offset))
+abbrev pub ranAt : Tree → Grants → List ℕ → Cursor → Images → Result Answer
+ranAt t g b at im = eventRun t (acting g (at .seat)) im (eventIn b (at .offset))
 
 -- its line
-abbrev pub lineAt : Tree → List ℕ → Cursor → Images → List ℕ
-lineAt t b at im = answerLine (at .number) (ranAt t b at im .answer)
+abbrev pub lineAt : Tree → Grants → List ℕ → Cursor → Images → List ℕ
+lineAt t g b at im = answerLine (at .number) (ranAt t g b at im .answer)
 
 -- the file has ended, or the buffer has no room for the longest line
 abbrev pub ends : List ℕ → ℕ → Cursor → Bool
 ends b room at = leb (length b) (at .offset) || ltb room 96
 
 -- whole lines from a cursor on, at most `left` of them
-unfoldable pub partUpTo : ℕ → Tree → List ℕ → ℕ → Cursor → Images → Part
-partUpTo zero t b room at im = stop at im
-partUpTo (suc left) t b room at im =
+unfoldable pub partUpTo : ℕ → Tree → Grants → List ℕ → ℕ → Cursor → Images → Part
+partUpTo zero t g b room at im = stop at im
+partUpTo (suc left) t g b room at im =
     cond (ends b room at) (stop at im)
-    (behind (lineAt t b at im)
-    (partUpTo left t b (room - length (lineAt t b at im)) (past b at) (ranAt t b at im .after)))
+    (behind (lineAt t g b at im)
+    (partUpTo left t g b (room - length (lineAt t g b at im)) (past b at) (ranAt t g b at im .after)))
 
 -- as many whole lines as a buffer of `room` bytes takes
-abbrev pub partOf : Tree → List ℕ → ℕ → Cursor → Images → Part
-partOf t b room at im = partUpTo (length b) t b room at im
+abbrev pub partOf : Tree → Grants → List ℕ → ℕ → Cursor → Images → Part
+partOf t g b room at im = partUpTo (length b) t g b room at im
 
 -- a buffer with a text written over its start
 abbrev pub overStart : List ℕ → List ℕ → List ℕ

@@ -5,29 +5,31 @@ use mathlib.Core.List.{List, [], _∷_, _++_}
 use lib.Dec.{leb, eqb}
 use lib.ListN.{length, replicate}
 use Rattle.rack.specs.definitions.Tree.{Tree, bridgeCount, deviceCount}
+use Rattle.seat.specs.definitions.Grants.{Acting, acting}
 use Rattle.register_image.specs.definitions.Image.{Images, images}
 use Rattle.register_image.specs.definitions.Reset.{resetImages}
 use Rattle.file_record.specs.declared.Event.{Event}
 use Rattle.file_record.specs.definitions.Number.{byteIn}
 use Rattle.file_record.specs.definitions.Record.{sizeOf}
-use Rattle.file_record.specs.definitions.Events.{eventIn}
+use Rattle.file_record.specs.definitions.Events.{eventIn, actsAfter}
 use Rattle.file_record.specs.definitions.Load.{fileIn}
 use Rattle.event_run.specs.declared.Answer.{Answer}
-use Rattle.event_run.specs.declared.Answer.the-variants.{Ended, Checked}
+use Rattle.event_run.specs.declared.Answer.the-variants.{Ended, Checked, Seated}
 use Rattle.event_run.specs.definitions.Run.{eventRun}
-use Rattle.print_line.specs.definitions.Line.{endingLine, reportLine, refusedLine}
+use Rattle.print_line.specs.definitions.Line.{endingLine, reportLine, seatLine, refusedLine}
 use Rattle.print_file.specs.declared.Cursor.{Cursor}
 
 -- the line of an answer
 abbrev pub answerLine : ℕ → Answer → List ℕ
 answerLine n (Ended crossings e) = endingLine n crossings e
 answerLine n (Checked r) = reportLine n r
+answerLine n (Seated seat) = seatLine n seat
 
--- the lines of a list of events, numbered from n, each on the images that the one before left
-unfoldable pub linesOf : Tree → ℕ → Images → List Event → List ℕ
-linesOf t n im [] = []
-linesOf t n im (e ∷ events) =
-    answerLine n (eventRun t im e .answer) ++ linesOf t (n + 1) (eventRun t im e .after) events
+-- the lines of a list of events, numbered from n, each on the images that the one before left; `by` acts first
+unfoldable pub linesOf : Tree → Acting → ℕ → Images → List Event → List ℕ
+linesOf t by n im [] = []
+linesOf t by n im (e ∷ events) =
+    answerLine n (eventRun t by im e .answer) ++ linesOf t (actsAfter by e) (n + 1) (eventRun t by im e .after) events
 
 -- the events of a file from an offset on, at most `left` of them
 unfoldable pub eventsUpTo : ℕ → List ℕ → ℕ → List Event
@@ -42,14 +44,15 @@ eventsAt b o = eventsUpTo (length b) b o
 abbrev pub blank : Tree → Images
 blank t = images (replicate (64 * bridgeCount t) 0) (replicate (64 * deviceCount t) 0)
 
--- where a run begins: at its first event's offset. 01: 'A line holds the event number from 1'
+-- where a run begins: at its first event's offset. 01: 'A line holds the event number from 1'; 02, E1: 'the run starts as seat 0'
 abbrev pub firstAt : ℕ → Cursor
-firstAt o = record { offset = o; number = 1 }
+firstAt o = record { offset = o; number = 1; seat = 0 }
 
 -- 01: '`rackrun` reads a rack file from standard input, checks all of it, then runs it from reset'; 'A refused input prints only
 -- `refused N at O`'
 unfoldable pub outputOf : List ℕ → List ℕ
 outputOf b =
     cond (eqb (fileIn b .refusal) 0)
-    (linesOf (fileIn b .tree) 1 (resetImages (fileIn b .tree) (blank (fileIn b .tree))) (eventsAt b (fileIn b .offset)))
+    (linesOf (fileIn b .tree) (acting (fileIn b .grants) 0) 1 (resetImages (fileIn b .tree) (blank (fileIn b .tree)))
+    (eventsAt b (fileIn b .offset)))
     (refusedLine (fileIn b .refusal) (fileIn b .offset))

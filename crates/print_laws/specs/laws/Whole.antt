@@ -8,6 +8,7 @@ use lib.ListN.{length}
 use borrow.Author.Tests.{leb-true, leb-false, eq-eqb, ne-eqb}
 use Rattle.rack.specs.laws.Bools.{tested}
 use Rattle.rack.specs.definitions.Tree.{Tree}
+use Rattle.seat.specs.definitions.Grants.{Grants}
 use Rattle.register_image.specs.definitions.Image.{Images}
 use Rattle.register_image.specs.definitions.Reset.{resetImages}
 use Rattle.file_record.specs.definitions.Load.{fileIn}
@@ -19,21 +20,21 @@ use Rattle.print_file.specs.laws.FillingLaws.{progress}
 use Rattle.print_laws.specs.laws.Parts.{linesAt, lines-past, part-lines}
 use Rattle.print_laws.specs.definitions.Calls.{callsUpTo}
 
-module _ (t : Tree) (b : List ℕ) where
+module _ (t : Tree) (g : Grants) (b : List ℕ) where
   -- from any cursor and images on, with as many calls as there are bytes left
   pub calls-lines : (k room : ℕ) (at : Cursor) (im : Images) → 96 ≤ room → length b ≤ at .offset + k
-      → callsUpTo k t b room at im ≡ linesAt t b at im
+      → callsUpTo k t g b room at im ≡ linesAt t g b at im
   unfolding callsUpTo
-  calls-lines zero room at im r n = sym (lines-past t b at im (omega arith))
+  calls-lines zero room at im r n = sym (lines-past t g b at im (omega arith))
   calls-lines (suc k) room at im r n =
-      tested (leb (length b) (at .offset)) (λ q. rw q (sym (lines-past t b at im (leb-true (length b) (at .offset) q))))
+      tested (leb (length b) (at .offset)) (λ q. rw q (sym (lines-past t g b at im (leb-true (length b) (at .offset) q))))
       (λ q.
-      let p = partOf t b room at im in
+      let p = partOf t g b room at im in
       let i : at .offset < length b = leb-false (length b) (at .offset) q in
-      let on : at .offset < p .next .offset = progress t b room at im r i in
+      let on : at .offset < p .next .offset = progress t g b room at im r i in
       rw q
       (ap (λ (l : List ℕ). p .text ++ l) (calls-lines k room (p .next) (p .after) r (omega arith))
-      ∙ sym (part-lines t b room at im)))
+      ∙ sym (part-lines t g b room at im)))
 
 module _ (b : List ℕ) where
   -- where a run begins: at the first event, with number 1, and from reset
@@ -48,11 +49,11 @@ module _ (b : List ℕ) where
   unfolding outputOf
   output-refused z = rw (ne-eqb (fileIn b .refusal) 0 z)
 
-  pub output-accepted : fileIn b .refusal ≡ 0 → outputOf b ≡ linesAt (fileIn b .tree) b firstOf resetOf
+  pub output-accepted : fileIn b .refusal ≡ 0 → outputOf b ≡ linesAt (fileIn b .tree) (fileIn b .grants) b firstOf resetOf
   unfolding outputOf
   output-accepted z = rw (eq-eqb (fileIn b .refusal) 0 z)
 
   pub whole : (room : ℕ) → fileIn b .refusal ≡ 0 → 96 ≤ room
-      → callsUpTo (length b) (fileIn b .tree) b room firstOf resetOf ≡ outputOf b
+      → callsUpTo (length b) (fileIn b .tree) (fileIn b .grants) b room firstOf resetOf ≡ outputOf b
   whole room z r =
-      calls-lines (fileIn b .tree) b (length b) room firstOf resetOf r (omega arith) ∙ sym (output-accepted z)
+      calls-lines (fileIn b .tree) (fileIn b .grants) b (length b) room firstOf resetOf r (omega arith) ∙ sym (output-accepted z)

@@ -8,7 +8,7 @@ use Rattle.claim_agent.specs.declared.Space.the-variants.{Memory, Io, Configura
 use Rattle.route_bus.specs.declared.Outcome.{Outcome}
 use Rattle.route_bus.specs.declared.Outcome.the-variants.{Abort, Done, Target}
 use Rattle.event_run.specs.declared.Ending.{Ending}
-use Rattle.event_run.specs.declared.Ending.the-variants.{Data, Stored, Owner, Host, Unclaimed, Clash, Special, Silent}
+use Rattle.event_run.specs.declared.Ending.the-variants.{Data, Stored, Owner, Host, Unclaimed, Clash, Special, Silent, Denied}
 use Rattle.check_search.specs.declared.Report.{Report}
 use Rattle.check_search.specs.declared.Report.the-variants.{Pass, Fault}
 use Rattle.print_line.specs.declared.Line.{Line}
@@ -46,7 +46,8 @@ spaceWord Io = codesOf "io"
 
 -- 01: '`data` crossings and 8 hex digits; `stored` crossings; `owner` crossings, node, region, offset (16 hex digits); `host` crossings,
 -- offset from its first address (16 too); `unclaimed` crossings, holder, then `abort` (no crossing), `done` or `target`; `clash` crossings,
--- holder, the first two claimants in agent order; `silent`'. 02, E4: '`special` with crossings and holder'
+-- holder, the first two claimants in agent order; `silent`'. 02, E4: '`special` with crossings and holder'; E1:
+-- '`denied` with its crossings'
 unfoldable pub endingFields : ℕ → Ending → List (List ℕ)
 endingFields crossings (Data value) = codesOf "data" ∷ decimalOf crossings ∷ hexOf 8 value ∷ []
 endingFields crossings Stored = codesOf "stored" ∷ decimalOf crossings ∷ []
@@ -56,6 +57,7 @@ endingFields crossings (Unclaimed holder outcome) = codesOf "unclaimed" ∷ deci
 endingFields crossings (Clash holder first second) = codesOf "clash" ∷ decimalOf crossings ∷ decimalOf holder ∷ decimalOf first ∷ decimalOf second ∷ []
 endingFields crossings (Special holder) = codesOf "special" ∷ decimalOf crossings ∷ decimalOf holder ∷ []
 endingFields crossings Silent = codesOf "silent" ∷ []
+endingFields crossings Denied = codesOf "denied" ∷ decimalOf crossings ∷ []
 
 -- 01: '`pass`; `fault` holder, `config`/`memory`/`io`, value (16 hex digits), driver, two agents'
 unfoldable pub reportFields : Report → List (List ℕ)
@@ -70,6 +72,10 @@ endingLine n crossings e = lineOf (decimalOf n) (endingFields crossings e)
 -- the same for a check, as `3 pass` or `4 fault 0 memory 0000000090000000 2 0 1`
 abbrev pub reportLine : ℕ → Report → List ℕ
 reportLine n r = lineOf (decimalOf n) (reportFields r)
+
+-- 02, E1: 'A seat event prints `seat` and its number'
+abbrev pub seatLine : ℕ → ℕ → List ℕ
+seatLine n seat = lineOf (decimalOf n) (codesOf "seat" ∷ decimalOf seat ∷ [])
 
 -- 01: 'A refused input prints only `refused N at O`'
 abbrev pub refusedLine : ℕ → ℕ → List ℕ

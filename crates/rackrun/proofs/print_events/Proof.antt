@@ -5,18 +5,19 @@ use Prim.Native.Nat.{_-_}
 use lib.ListN.{length}
 use borrow.Author.Needs.{needs}
 use Rattle.rack.specs.definitions.Table.{treeOf}
+use Rattle.seat.specs.definitions.Table.{grantsOf}
 use Rattle.register_image.specs.definitions.Image.{images}
 use Rattle.rackrun.proofs.print_events.Statement.{statement}
 use Rattle.rackrun.proofs.print_events.Tie as tie
 
 abbrev Inv-loop : tie.InvT-loop
-Inv-loop file table bridges₀ devices₀ offset next₀ bridges devices next =
-    (Left (treeOf table) file next₀ (images bridges₀ devices₀) next (images bridges devices))
+Inv-loop file table grants bridges₀ devices₀ offset next₀ bridges devices next =
+    (Left (treeOf table) (grantsOf grants) file next₀ (images bridges₀ devices₀) next (images bridges devices))
     × (length bridges ≡ length bridges₀)
     × (length devices ≡ length devices₀)
 
 abbrev μ-loop : tie.MeasureT-loop
-μ-loop file table bridges₀ devices₀ offset next₀ bridges devices next = length file - next .offset
+μ-loop file table grants bridges₀ devices₀ offset next₀ bridges devices next = length file - next .offset
 
 start-requires : tie.Need-start-requires Inv-loop μ-loop
 start-requires c κs = search needs

@@ -27,113 +27,35 @@ use Rattle.route_bus.specs.definitions.End.{ifUnclaimed, ends}
 use Rattle.route_bus.specs.laws.EndLaws.{by-end}
 use Rattle.route_bus.specs.definitions.Look.{unclaimed, owned, claimed, isSpecialCycle, look}
 use Rattle.route_bus.specs.laws.LookLaws.{look-special, by-direct}
-use Rattle.route_bus.specs.definitions.Cross.{otherBus, turnsType0, lastOutcome, passed, passedEnd, crossed}
+use Rattle.route_bus.specs.definitions.Cross.{otherBus, turnsType0, lastOutcome, passed, crossed}
 use Rattle.route.specs.definitions.Route.{follow, busStep, bridgeStep, possible, configure}
 use Rattle.route.specs.laws.StepLaws.{bus-ends, bus-ends-left, bus-on, bridge-on}
 use Rattle.route_laws.specs.definitions.Ends.{isSpecial}
 use Rattle.route_laws.specs.definitions.Path.{Taken, claimantsOn, Path, ToType0, specialAt, elsewhere}
 use Rattle.route_laws.specs.laws.Takers.{Follows, look-follows}
-use Rattle.route_laws.specs.laws.Failing.{Fails, passed-is, claimed-fails}
+use Rattle.route_laws.specs.laws.Failing.{passed-is}
 use Rattle.route_laws.specs.laws.Arrives.{special-fails}
 use Rattle.route_laws.specs.laws.Possible.{Enough, onward, possible-is}
+use Rattle.route_laws.specs.laws.Type0.{arrived, endSeen, crossed-on, came}
 
 module _ (t : Tree) (im : Images) (x : Access) where
-  -- a bridge on the way back counts a crossing and leaves the rest as it is
-  crossed-special : (bus g : ℕ) (gs : List ℕ) (holder : ℕ) {o : Result Route} → o ≡ specialAt t im x gs holder
-      → crossed t (o .after) x bus g (o .answer) ≡ specialAt t im x (g ∷ gs) holder
-  unfolding crossed ifUnclaimed
-  crossed-special bus g gs holder e =
-      let n : length gs + 1 ≡ length (g ∷ gs) = omega arith in
-      ap (λ (o : Result Route). crossed t (o .after) x bus g (o .answer)) e
-      ∙ ap (λ (c : ℕ). gives (record { crossings = c; end = Special holder }) im) n
-
-  -- what a route that ends special has: it is a special cycle that came to a Type 0
-  record Ended (bus driver : ℕ) (type0 : Bool) (o : Result Route) : Type 0 where
-    pub cycle : isSpecialCycle x ≡ true
-    pub bridges : List ℕ
-    pub holder : ℕ
-    pub by : ℕ
-    pub path : Path t im x bus driver type0 bridges holder by true
-    pub result : o ≡ specialAt t im x bridges holder
-
-  -- the same of what is seen on one bus
-  abbrev Here : ℕ → Bool → Sight → Images → Type 0
-  Here bus type0 (Ends e) v =
-      isSpecial e ≡ true → (isSpecialCycle x ≡ true) × (type0 ≡ true) × (ends e v ≡ specialAt t im x [] bus)
-  Here bus type0 (Crosses g) v = Unit {0}
-
-  fails-here : (bus : ℕ) (type0 : Bool) (s : Sight) (v : Images) → Fails isSpecial s → Here bus type0 s v
-  fails-here bus type0 (Ends e) v f = λ i. absurd (false≢true (sym f ∙ i))
-  fails-here bus type0 (Crosses g) v f = tt
-
-  look-here : (bus driver : ℕ) (type0 : Bool)
-      → Here bus type0 (look t im x bus driver type0 .answer) (look t im x bus driver type0 .after)
-  unfolding look unclaimed
-  look-here bus driver true =
-      by-direct t im x bus driver (λ r. Here bus true (r .answer) (r .after)) (λ s i. (s, refl, refl))
-      (λ s q i. absurd (false≢true i)) (λ s q i. absurd (false≢true i))
-  look-here bus driver false =
-      fails-here bus false (look t im x bus driver false .answer) (look t im x bus driver false .after)
-      (claimed-fails isSpecial special-fails t im x bus driver (firstTwo (claimantsOn t im x bus driver)))
-
-  follow-special : (bus driver : ℕ) (type0 : Bool) (cross : ℕ → Images → Result Route) (s : Sight) (v : Images)
-      → Follows t im x bus driver type0 s v → Here bus type0 s v
-      → ((g : ℕ) → Follows t im x bus driver type0 (Crosses g) im → isSpecial (cross g im .answer .end) ≡ true
-      → Ended bus driver type0 (cross g im))
-      → isSpecial (follow cross s v .answer .end) ≡ true → Ended bus driver type0 (follow cross s v)
-  unfolding Path
-  follow-special bus driver type0 cross (Ends e) v f h on i =
-      record {
-        cycle = h i .0;
-        bridges = [];
-        holder = bus;
-        by = driver;
-        path = (refl, refl, sym (h i .1));
-        result = h i .2;
-      }
-  follow-special bus driver type0 cross (Crosses g) v f h on i =
-      rw (f .1) (on g (f .0, refl, f .2, f .3) (rw (f .1) at i))
-
-  -- one bridge more
-  across : (bus driver g : ℕ) (type0 : Bool) (o : Result Route) → Follows t im x bus driver type0 (Crosses g) im
-      → isSpecial (passedEnd t (o .after) x bus g (o .answer .end)) ≡ true
-      → (isSpecial (o .answer .end) ≡ true → Ended (otherBus t bus g) g (turnsType0 t im x bus g) o)
-      → Ended bus driver type0 (crossed t (o .after) x bus g (o .answer))
-  unfolding Path
-  across bus driver g type0 o f i on =
-      let c = on (sym (passed-is isSpecial special-fails t (o .after) x bus g (o .answer .end)) ∙ i) in
-      record {
-        cycle = c .cycle;
-        bridges = g ∷ c .bridges;
-        holder = c .holder;
-        by = c .by;
-        path = (f .2, f .3, f .0, c .path);
-        result = crossed-special bus g (c .bridges) (c .holder) (c .result);
-      }
-
-  bus-special : (n bus driver : ℕ) (type0 : Bool) → isSpecial (busStep n t im x bus driver type0 .answer .end) ≡ true
-      → Ended bus driver type0 (busStep n t im x bus driver type0)
-  unfolding busStep crossed
-  bus-special zero bus driver type0 i = absurd (false≢true i)
-  bus-special (suc zero) bus driver type0 i =
-      follow-special bus driver type0 (λ g v. bridgeStep 0 t v x bus g) (look t im x bus driver type0 .answer)
-      (look t im x bus driver type0 .after) (look-follows t bus im x driver type0) (look-here bus driver type0)
-      (λ g f k. absurd (false≢true k)) i
-  bus-special (suc (suc n)) bus driver type0 i =
-      follow-special bus driver type0 (λ g v. bridgeStep (suc n) t v x bus g) (look t im x bus driver type0 .answer)
-      (look t im x bus driver type0 .after) (look-follows t bus im x driver type0) (look-here bus driver type0)
-      (λ g f k.
-      across bus driver g type0 (busStep n t im x (otherBus t bus g) g (turnsType0 t im x bus g)) f k
-      (bus-special n (otherBus t bus g) g (turnsType0 t im x bus g)))
-      i
-
   -- a configuration access that ends special is that write, and came to a Type 0 on the bus of that holder; no image changed
   pub only-special : isSpecial (configure t im x .answer .end) ≡ true
       → (isSpecialCycle x ≡ true) × ((gs : List ℕ) × (holder : ℕ) × ToType0 t im x gs holder × (configure t im x ≡ specialAt t im x gs holder))
-  unfolding configure
+  unfolding look unclaimed
   only-special i =
-      let c = bus-special (possible t host + possible t host + 1) host host (eqb (x .address) 0) i in
-      (c .cycle, (c .bridges, c .holder, (c .by, c .path), c .result))
+      let c = came isSpecial special-fails t im x refl i in
+      let s = seen-special (c .holder) (c .by) (rw (← c .seen) (c .such)) in (
+        s .0,
+        (c .bridges, c .holder, (c .by, c .path), c .result ∙ ap (arrived im (c .bridges)) (c .seen ∙ s .1)),
+      )
+    where
+      seen-special : (bus driver : ℕ) → isSpecial (endSeen (look t im x bus driver true .answer)) ≡ true
+          → (isSpecialCycle x ≡ true) × (endSeen (look t im x bus driver true .answer) ≡ Special bus)
+      seen-special bus driver =
+          by-direct t im x bus driver
+          (λ r. isSpecial (endSeen (r .answer)) ≡ true → (isSpecialCycle x ≡ true) × (endSeen (r .answer) ≡ Special bus))
+          (λ s i. (s, refl)) (λ s q i. absurd (false≢true i)) (λ s q i. absurd (false≢true i))
 
   look-type0 : (bus driver : ℕ) (type0 : Bool) → type0 ≡ true → isSpecialCycle x ≡ true
       → look t im x bus driver type0 ≡ gives (Ends (Special bus)) im
@@ -155,7 +77,7 @@ module _ (t : Tree) (im : Images) (x : Access) where
         let o = onward t ok bus driver m g is en (p .2) in
         bus-on t im x bus driver type0 m (look-crosses bus driver g type0 (p .0) (p .1) (p .2)) (o .left)
         ∙ bridge-on t im x bus g (m - 1)
-        ∙ crossed-special bus g gs holder (bus-arrives gs (m - 1) (otherBus t bus g) g (turnsType0 t im x bus g) holder by (o .place) (o .enough) (p .3))
+        ∙ crossed-on isSpecial special-fails t im x bus g gs (Special holder) refl (bus-arrives gs (m - 1) (otherBus t bus g) g (turnsType0 t im x bus g) holder by (o .place) (o .enough) (p .3))
 
     -- and that write ends so wherever its way comes to a Type 0
     pub special-arrives : Stored t → (gs : List ℕ) (holder : ℕ) → ToType0 t im x gs holder → configure t im x ≡ specialAt t im x gs holder

@@ -5,7 +5,8 @@ use std::io::Write;
 use std::process::{Command, Stdio};
 
 use rackcheck::machine::Machine;
-use rackcheck::rack::{Header, Node, Options, Rack, Region};
+use rackcheck::program::Run;
+use rackcheck::rack::{Event, Header, Node, Options, Rack, Region};
 
 /// A rack file under construction.
 #[derive(Clone, Debug, Default)]
@@ -132,6 +133,30 @@ impl File {
         self.raw(&[8])
     }
 
+    /// A seat record.
+    pub fn seat(self, seat: u8, node: u8, mask: u16) -> File {
+        self.raw(&[9, seat, node]).raw(&mask.to_le_bytes())
+    }
+
+    /// A seat event.
+    pub fn acts(self, seat: u8) -> File {
+        self.raw(&[10, seat])
+    }
+
+    /// The same file with these seat records behind its other rack records.
+    pub fn seated(&self, grants: &[(u8, u8, u16)]) -> File {
+        let (records, events) = self.0.split_at(self.records_length());
+        let records = File(records.to_vec());
+        let seat = |file: File, (seat, node, mask): &(u8, u8, u16)| file.seat(*seat, *node, *mask);
+        grants.iter().fold(records, seat).raw(events)
+    }
+
+    /// How many bytes the rack records have.
+    pub fn records_length(&self) -> usize {
+        let events = rackcheck::file::read(&self.0).expect("not refused").1;
+        self.0.len() - events.iter().map(event_length).sum::<usize>()
+    }
+
     /// The program's whole output.
     pub fn output(&self) -> String {
         output(&self.0)
@@ -170,17 +195,29 @@ impl File {
     /// The machine after all events.
     pub fn machine(&self) -> Machine {
         let (rack, events) = rackcheck::file::read(&self.0).expect("not refused");
-        let mut machine = Machine::at_reset(rack).expect("not refused");
+        let mut run = Run::at_reset(rack).expect("not refused");
         for event in &events {
-            rackcheck::program::run_event(&mut machine, event);
+            run.step(event);
         }
-        machine
+        run.machine
     }
 
     /// Both images after all events.
     pub fn images(&self) -> (Vec<u8>, Vec<u8>) {
         let machine = self.machine();
         (machine.bridges().to_vec(), machine.devices().to_vec())
+    }
+}
+
+/// How many bytes an event's record has.
+pub fn event_length(event: &Event) -> usize {
+    match event {
+        Event::ConfigWrite { .. } => 9,
+        Event::ConfigRead { .. } => 4,
+        Event::Memory { .. } => 11,
+        Event::Io { .. } => 7,
+        Event::Check => 1,
+        Event::Seat { .. } => 2,
     }
 }
 

@@ -14,7 +14,7 @@ fn order_over_bytes() {
     let records = rack().0;
     let (b, d) = rack().images();
     let run = |records: &[u8], event: &[u8], b: &[u8], d: &[u8]| {
-        calls::event_of_bytes(records, event, &mut b.to_vec(), &mut d.to_vec())
+        calls::event_of_bytes(records, event, &mut b.to_vec(), &mut d.to_vec(), 0)
     };
     let read = [5, 0, 0, 0];
     assert_eq!(run(&records, &read, &b, &d), Ok(Answer::Data { crossings: 0, data: 0x0010_1234 }));
@@ -30,12 +30,12 @@ fn order_over_bytes() {
     assert_eq!(run(&rack().device(0, 2, [(1, 1); 3]).0, &[], &[], &[]), Err(10));
     assert_eq!(calls::check_of_bytes(&rack().check().0, &[], &[]), Err(2));
     // Then the event, before 11.
-    for kind in (0..=255).filter(|kind| !(4..=8).contains(kind)) {
+    for kind in (0..=255).filter(|kind| !matches!(kind, 4..=8 | 10)) {
         assert_eq!(run(&records, &[kind], &[], &[]), Err(2));
         assert_eq!(run(&records, &[kind, 0, 0, 0, 0, 0, 0], &[], &[]), Err(2));
     }
     assert_eq!(run(&records, &[], &[], &[]), Err(2));
-    for (kind, length) in [(4u8, 8), (5, 3), (6, 10), (7, 6), (8, 0)] {
+    for (kind, length) in [(4u8, 8), (5, 3), (6, 10), (7, 6), (8, 0), (10, 1)] {
         for have in 0..20 {
             let mut event = vec![kind];
             event.resize(1 + have, 0);
@@ -58,7 +58,7 @@ fn an_older_bridge_over_bytes() {
     let file = one_of_each_below(13);
     let (records, (b, d)) = (file.clone().0, file.images());
     let run = |event: &[u8], b: &[u8]| {
-        calls::event_of_bytes(&records, event, &mut b.to_vec(), &mut d.clone())
+        calls::event_of_bytes(&records, event, &mut b.to_vec(), &mut d.clone(), 0)
     };
     let io_base = Answer::Data { crossings: 0, data: 0 };
     assert_eq!(run(&[5, 0, 0, 0x1C], &b), Ok(io_base));
@@ -124,7 +124,7 @@ fn a_refused_call_leaves_the_images() {
     assert_eq!((&b, &d), (&b0, &d0));
     assert_eq!(calls::register_write(&rack, &mut b, &mut d, 0, (0x18, 15, 0x0002_0100)), Ok(()));
     let unclaimed = Event::ConfigRead { bus: 1, device_function: 0, register: 0 };
-    let answer = calls::event(&rack, &mut b, &mut d, &unclaimed);
+    let answer = calls::event(&rack, &mut b, &mut d, 0, &unclaimed);
     assert_eq!(answer, Ok(Answer::Unclaimed { crossings: 1, holder: 0, how: Abort::Done }));
     assert_eq!(b[0x1F], 0x20);
 }
@@ -225,9 +225,9 @@ fn reset_over_bytes() {
 fn racks_that_are_refused_do_not_panic() {
     // A bridge that is its own parent, a region that shifts everything away.
     let nodes = [vec![bridge(0, 0)], vec![device(0, 0, [(3, 255); 3]); 400]].concat();
-    let rack = Rack { host_first: 0, host_last: 0, nodes };
+    let rack = Rack { nodes, ..Rack::default() };
     let (mut b, mut d) = rackcheck::registers::reset_images(&rack);
-    assert_eq!(calls::event(&rack, &mut b, &mut d, &Event::Check), Err(7));
+    assert_eq!(calls::event(&rack, &mut b, &mut d, 0, &Event::Check), Err(7));
     assert_eq!(calls::check(&rack, &b, &d), Err(7));
     assert_eq!(calls::view(&rack, &b, &d, 0), Err(7));
     assert_eq!(calls::size(&rack, &mut b, &mut d, 1, 0), Err(7));

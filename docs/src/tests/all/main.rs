@@ -12,4 +12,7 @@ mod refusals;
 mod registers;
 mod routes;
 mod script;
+mod seat_calls;
+mod seat_files;
+mod seats;
 mod special;

@@ -293,7 +293,7 @@ fn all_newer(machine: &Machine) -> Machine {
 /// One event over a machine's rack and images: its answer and what is then in the images.
 fn run(machine: &Machine, event: &Event) -> (Answer, Machine) {
     let (mut b, mut d) = (machine.bridges().to_vec(), machine.devices().to_vec());
-    let answer = calls::event(machine.rack(), &mut b, &mut d, event).expect("not refused");
+    let answer = calls::event(machine.rack(), &mut b, &mut d, 0, event).expect("not refused");
     (answer, Machine::with_images(machine.rack().clone(), &b, &d).expect("not refused"))
 }
 

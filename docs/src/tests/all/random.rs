@@ -1,6 +1,7 @@
 //! Random byte strings never panic, and their outputs have the right form.
 
 use crate::build::{output, Random};
+use rackcheck::rack::Event;
 
 fn well_formed(bytes: &[u8]) -> bool {
     let out = output(bytes);
@@ -9,7 +10,7 @@ fn well_formed(bytes: &[u8]) -> bool {
     assert!(!refused || out.lines().count() == 1);
     // All calls over the same bytes, too.
     let _ = rackcheck::calls::check_of_bytes(bytes, bytes, bytes);
-    let _ = rackcheck::calls::event_of_bytes(bytes, bytes, &mut [], &mut []);
+    let _ = rackcheck::calls::event_of_bytes(bytes, bytes, &mut [], &mut [], 0);
     !refused
 }
 
@@ -41,6 +42,7 @@ pub fn records(random: &mut Random) -> Vec<u8> {
     let mut bytes = vec![1];
     bytes.extend((0..16).map(|_| random.pick(&[0, 0, 1, 0xFF])));
     let nodes = random.below(8) as u8;
+    let seated = random.one_in(2);
     for node in 0..nodes {
         let parent = if node == 0 { 255 } else { random.pick(&[255, 255, node - 1, 0]) };
         bytes.extend([random.pick(&[2, 13, 3]), parent, node, 1, 2, 3, 4]);
@@ -48,13 +50,16 @@ pub fn records(random: &mut Random) -> Vec<u8> {
             let regions = [[0, 0], [1, 2], [1, 8], [2, 4], [2, 31], [3, 4], [3, 31]];
             bytes.extend((0..3).flat_map(|_| random.pick(&regions)));
         }
+        if seated {
+            bytes.extend([9, random.pick(&[1, 2]), node, random.byte(), random.byte()]);
+        }
     }
     for _ in 0..random.below(60) {
         let device = (random.below(8) as u8) << 3 | u8::from(random.one_in(20));
         let bus = random.pick(&[0, 0, 0, 1, 2, 3]);
         let register =
             random.pick(&[4, 4, 0x10, 0x18, 0x18, 0x1C, 0x20, 0x24, 0x28, 0x2C, 0x30, 0x3C, 0x40]);
-        let kind = random.pick(&[4, 4, 4, 5, 6, 7, 8]);
+        let kind = random.pick(&[4, 4, 4, 5, 6, 7, 8, 10]);
         bytes.push(kind);
         match kind {
             4 if random.one_in(10) => {
@@ -71,6 +76,7 @@ pub fn records(random: &mut Random) -> Vec<u8> {
                 });
             }
             5 => bytes.extend([bus, device, register]),
+            10 => bytes.push(if seated { random.pick(&[0, 1, 2]) } else { 0 }),
             6 | 7 => {
                 let initiator = if random.one_in(2) { 255 } else { random.below(8) as u8 };
                 bytes.extend([initiator, random.below(2) as u8]);
@@ -113,10 +119,13 @@ fn events_one_by_one() {
         let bytes = records(&mut random);
         let Ok((rack, events)) = rackcheck::file::read(&bytes) else { continue };
         let (mut bridges, mut devices) = rackcheck::registers::reset_images(&rack);
-        let mut lines = String::new();
+        let (mut lines, mut acting) = (String::new(), 0);
         for (number, event) in (1..).zip(&events) {
-            let answer = rackcheck::calls::event(&rack, &mut bridges, &mut devices, event);
+            let answer = rackcheck::calls::event(&rack, &mut bridges, &mut devices, acting, event);
             lines += &format!("{number} {}\n", answer.expect("not refused"));
+            if let Event::Seat { seat } = event {
+                acting = *seat;
+            }
         }
         assert_eq!(lines, output(&bytes));
     }

@@ -5,17 +5,17 @@ use rackcheck::machine::Machine;
 use rackcheck::rack::{Node, Options, Rack};
 use rackcheck::refuse::{self, Fields};
 
-fn refused(file: File, number: u8, offset: usize) {
+pub fn refused(file: File, number: u8, offset: usize) {
     assert_eq!(file.output(), format!("refused {number} at {offset}\n"));
     let error = rackcheck::file::read(&file.0).unwrap_err();
     assert_eq!((error.number, error.offset), (number, offset));
 }
 
-fn accepted(file: File) {
+pub fn accepted(file: File) {
     assert!(rackcheck::file::read(&file.0).is_ok());
 }
 
-fn accepted_if(good: bool, file: File, number: u8, offset: usize) {
+pub fn accepted_if(good: bool, file: File, number: u8, offset: usize) {
     match good {
         true => accepted(file),
         false => refused(file, number, offset),
@@ -33,7 +33,7 @@ fn r01_too_long() {
 
 #[test]
 fn r02_kind() {
-    for kind in (0..=255).filter(|kind| !matches!(kind, 1..=8 | 13)) {
+    for kind in (0..=255).filter(|kind| !matches!(kind, 1..=10 | 13)) {
         refused(File::empty().raw(&[kind]), 2, 0);
         refused(File::new().raw(&[kind]), 2, 17);
         refused(File::new().check().raw(&[kind, 1, 2, 3]), 2, 18);
@@ -42,7 +42,7 @@ fn r02_kind() {
 
 #[test]
 fn r03_cut_short() {
-    let lengths = [16, 6, 12, 8, 3, 10, 6, 0];
+    let lengths = [16, 6, 12, 8, 3, 10, 6, 0, 4, 1];
     for (kind, length) in (1u8..).zip(lengths).chain([(13, 6)]) {
         for have in 0..length {
             refused(File::new().raw(&[kind]).raw(&vec![0; have]), 3, 17);
@@ -254,7 +254,7 @@ fn first_faulty_record_wins_over_lower_number() {
 }
 
 fn decoded(nodes: Vec<Node>) -> Rack {
-    Rack { host_first: 0, host_last: 0, nodes }
+    Rack { nodes, ..Rack::default() }
 }
 
 #[test]

@@ -1,8 +1,8 @@
 //! Scripts of calls: CALLS.md.
 
 use crate::build::{
-    binary, full_at_work, hex, one_of_each_below, only, output, placed, File, Random, EDITIONS,
-    NO_REGIONS,
+    binary, event_length, full_at_work, hex, one_of_each_below, only, output, placed, File, Random,
+    EDITIONS, NO_REGIONS,
 };
 use crate::check::random_rack;
 use crate::random::records;
@@ -78,7 +78,7 @@ impl Call {
     }
 
     /// All 0, and the images as they are.
-    fn nothing(&self) -> Gives {
+    pub fn nothing(&self) -> Gives {
         let images = self.images.clone();
         Gives { number: 0, numbers: rest_0(&[]), part: Vec::new(), images }
     }
@@ -92,15 +92,15 @@ impl Call {
     }
 }
 
-fn rest_0(numbers: &[u64]) -> Vec<u64> {
+pub fn rest_0(numbers: &[u64]) -> Vec<u64> {
     let mut all = numbers.to_vec();
     all.resize(8, 0);
     all
 }
 
-/// The 1,265 bytes of a decoded rack. What CALLS.md lets nobody look at is EEh: the regions
-/// of a bridge and the nodes behind the last one.
-fn decoded(rack: &Rack) -> Vec<u8> {
+/// The 5,585 bytes of a decoded rack. What CALLS.md lets nobody look at is EEh: the regions
+/// of a bridge, the nodes behind the last one and the masks of pairs that are not named.
+pub fn decoded(rack: &Rack) -> Vec<u8> {
     let mut bytes = [rack.host_first.to_le_bytes(), rack.host_last.to_le_bytes()].concat();
     bytes.push(rack.nodes.len() as u8);
     for node in rack.nodes.iter().take(96) {
@@ -118,13 +118,20 @@ fn decoded(rack: &Rack) -> Vec<u8> {
         bytes.extend(regions);
     }
     bytes.resize(1_265, 0xEE);
+    for (seat, node) in (1..=15).flat_map(|seat| (0..96).map(move |node| (seat, node))) {
+        match rack.grants.mask(seat, node) {
+            None => bytes.extend([0, 0xEE, 0xEE]),
+            Some(mask) => bytes.extend([&[1][..], &mask.to_le_bytes()].concat()),
+        }
+    }
+    assert_eq!(bytes.len(), 5_585);
     bytes
 }
 
 /// The same call of every operation over a rack, on the records of a file with images after
 /// its events.
-fn every_operation(file: &File, node: u8, named: u8, event: &[u8]) -> Vec<Call> {
-    let records = file.0[..file.0.len() - events_length(file)].to_vec();
+pub fn every_operation(file: &File, node: u8, named: u8, event: &[u8]) -> Vec<Call> {
+    let records = file.0[..file.records_length()].to_vec();
     let call = Call { images: file.images(), node, named, ..Call::default() };
     let call = Call { event: event.to_vec(), enables: 15, ..call };
     let over = |operation: u8| match operation {
@@ -132,18 +139,6 @@ fn every_operation(file: &File, node: u8, named: u8, event: &[u8]) -> Vec<Call> 
         _ => Call { operation, rack: records.clone(), ..call.clone() },
     };
     (1..=11).map(over).collect()
-}
-
-/// How many bytes of a file its events have.
-fn events_length(file: &File) -> usize {
-    let lengths = read(&file.0).unwrap().1.into_iter().map(|event| match event {
-        Event::ConfigWrite { .. } => 9,
-        Event::ConfigRead { .. } => 4,
-        Event::Memory { .. } => 11,
-        Event::Io { .. } => 7,
-        Event::Check => 1,
-    });
-    lengths.sum()
 }
 
 /// A bridge at reset, of vendor 1234h and device 0010h.
@@ -181,18 +176,19 @@ fn a_write_and_a_view_by_hand() {
         "03 FF 02 78 56 20 00 02 0C 00 00 00 00",
         "02 FF 01 34 12 10 00 09 09 09 09 09 09",
         &"00".repeat(94 * 13),
+        &"00".repeat(15 * 96 * 3),
     ];
     let device =
         |region: &str| ["78562000 00000000 000000FF 00000000", region, &"00".repeat(44)].concat();
     // Node 0, register 10h, enables 0110b, data 12345678h: bits 12 to 23 are written.
-    let head = "02 F1040000 0000 4000 4000 00 10 06 78563412";
+    let head = "02 D1150000 0000 4000 4000 00 10 06 78563412";
     let call = hex(&[head, &rack.concat(), BRIDGE, &device("00000000")].concat());
     let zeros = "00".repeat(64);
     let expected = hex(&["00", &zeros, "0000", BRIDGE, &device("00503400")].concat());
     assert_eq!(script(&call), expected);
     // The view of node 0, then of node 1, then of node 2.
     let view = |node: &str| {
-        let head = ["03 F1040000 0000 4000 4000", node, "00 00 00000000"].concat();
+        let head = ["03 D1150000 0000 4000 4000", node, "00 00 00000000"].concat();
         script(&hex(&[&head, &rack.concat(), BRIDGE, &device("00503400")].concat()))
     };
     let part =
@@ -239,8 +235,9 @@ fn an_older_bridge_by_hand() {
     let rack = [
         "0100000000000000 0000000000000000 01 0D FF 01 34 12 10 00 09 09 09 09 09 09",
         &"00".repeat(95 * 13),
+        &"00".repeat(15 * 96 * 3),
     ];
-    let head = "05 F1040000 0000 4000 0000 00 01 00 00000000";
+    let head = "05 D1150000 0000 4000 0000 00 01 00 00000000";
     let ends = hex(&[head, &rack.concat(), OLDER].concat());
     let numbers = ["0100000000000000 0000000000000000 FFFF0F0000000000", &"00".repeat(40)].concat();
     assert_eq!(script(&ends), hex(&["00", &numbers, "0000", OLDER].concat()));
@@ -494,7 +491,9 @@ fn what_is_no_call_ends_the_script() {
             rack[at] = value;
             Call { rack, ..call.clone() }
         };
-        Call { rack: call.rack[..1_264].to_vec(), ..call.clone() }.ends();
+        for length in [0, 1_264, 1_265, 1_266, 5_584] {
+            Call { rack: call.rack[..length].to_vec(), ..call.clone() }.ends();
+        }
         Call { rack: [&call.rack[..], &[0]].concat(), ..call.clone() }.ends();
         Call { rack: small().0, ..call.clone() }.ends();
         for kind in (0..=255).filter(|kind| !matches!(kind, 2 | 3 | 13)) {
@@ -502,7 +501,7 @@ fn what_is_no_call_ends_the_script() {
             with(17 + 13, kind).ends();
             assert_eq!(with(17 + 26, kind).gives(), call.gives());
         }
-        for event in [vec![], vec![3], vec![9], vec![8, 0], vec![5, 0, 0]] {
+        for event in [vec![], vec![3], vec![9], vec![8, 0], vec![5, 0, 0], vec![10]] {
             let call = Call { event, ..call.clone() };
             match call.operation {
                 6 => call.ends(),
@@ -556,6 +555,8 @@ fn every_ending() {
     run(file(), none().special(7), &[5, 1, 0, 1]);
     run(file(), none().memory(2, 0, 0), &[7]);
     run(file(), none().check(), &[8]);
+    run(file().seated(&[(9, 0, 0)]), none().acts(9), &[11, 9]);
+    run(file(), none().acts(0), &[11, 0]);
     let clash = || file().put(0, 2, 0x10, 0xABCD_E000).put(0, 2, 4, 2);
     run(clash(), none().memory(3, 0, 0xABCD_EFFF), &[6, 1, 255, 1, 2]);
     run(clash(), none().check(), &[9, 255, 0, 0xABCD_E000, 255, 1, 2]);
@@ -591,14 +592,17 @@ fn line(n: &[u64]) -> String {
             let space = ["memory", "io", "config"][n[2] as usize];
             format!("fault {} {space} {:016X} {} {} {}", n[1], n[3], n[4], n[5], n[6])
         }
+        10 => format!("denied {}", n[1]),
+        11 => format!("seat {}", n[1]),
         12 => format!("special {} {}", n[1], n[2]),
         other => panic!("ending {other}"),
     }
 }
 
-/// A random rack that is written to, then accesses of host and devices, and checks.
+/// A random rack that is written to by seat 0, then events by it and by seats 1 and 15.
 fn random_file(random: &mut Random) -> File {
-    let mut file = random_rack(random);
+    let grants = [(1, 0, random.next() as u16), (15, 1, random.next() as u16), (15, 0, 2)];
+    let mut file = random_rack(random).seated(&grants);
     let rack = file.rack();
     let devices = rack.numbered().map(|(number, _)| number).filter(|n| rack.regions(*n).is_some());
     let initiators: Vec<u8> = devices.chain([255]).collect();
@@ -606,13 +610,17 @@ fn random_file(random: &mut Random) -> File {
         let (initiator, direction) = (random.pick(&initiators), random.below(2) as u8);
         let low = random.pick(&[0x300, 0x3B0, 0x3C0, 0x0, 0x2FC, 0x100]) + random.below(8);
         let high = random.pick(&[0, 0x400, 0xFC00, 0x1000, 0x2400, 0x4_0000, 0x12_0000]);
-        file = match random.below(9) {
+        file = match random.below(13) {
             0..=2 => file.memory(initiator, direction, high + low),
             3..=5 => file.io(initiator, direction, (high + low) as u32),
             6 => {
                 file.get(random.below(4) as u8, random.below(16) as u8, random.pick(&[0, 4, 0x1C]))
             }
             7 => file.special(random.below(2) as u8),
+            8..=10 => {
+                file.put(0, random.below(16) as u8, random.byte() & 0x7C, random.next() as u32)
+            }
+            11 => file.acts(random.pick(&[0, 1, 15])),
             _ => file.check(),
         };
     }
@@ -627,27 +635,28 @@ fn lines_of_random_files() {
     for _ in 0..800 {
         let bytes = random_file(&mut random).0;
         let (rack, events) = read(&bytes).unwrap();
-        let length = events_length(&File(bytes.clone()));
-        let (records, mut rest) = bytes.split_at(bytes.len() - length);
+        let (records, mut rest) = bytes.split_at(File(bytes.clone()).records_length());
         let mut images = rackcheck::registers::reset_images(&rack);
-        let mut lines = String::new();
-        for number in 1..=events.len() {
-            let (event, behind) = rest.split_at([9, 4, 11, 7, 1][usize::from(rest[0]) - 4]);
+        let (mut lines, mut acting) = (String::new(), 0);
+        for (number, read) in (1..).zip(&events) {
+            let (event, behind) = rest.split_at(event_length(read));
             rest = behind;
-            let call = Call { event: event.to_vec(), images, ..Call::default() };
+            let call = Call { event: event.to_vec(), images, node: acting, ..Call::default() };
             let over_bytes = Call { operation: 8, rack: records.to_vec(), ..call.clone() };
             let gives = over_bytes.gives();
             assert_eq!(Call { operation: 6, rack: decoded(&rack), ..call }.gives(), gives);
             assert_eq!((gives.number, gives.part.len()), (0, 0));
             lines += &format!("{number} {}\n", line(&gives.numbers));
             seen[gives.numbers[0] as usize] += 1;
+            if let Event::Seat { seat } = read {
+                acting = *seat;
+            }
             images = gives.images;
         }
         assert_eq!(lines, output(&bytes));
     }
     println!("endings: {seen:?}");
-    // There are no endings 10 and 11.
-    assert!(seen[1..10].iter().chain(&seen[12..]).all(|count| *count >= 20), "{seen:?}");
+    assert!(seen[1..].iter().all(|count| *count >= 20), "{seen:?}");
 }
 
 #[test]

@@ -164,7 +164,8 @@ fn other_functions_devices_and_registers() {
                 Event::ConfigWrite { bus: 0, device_function, register, enables: 15, data: 0 },
                 Event::ConfigRead { bus: 0, device_function, register },
             ] {
-                let answer = calls::event(&rack, &mut b.clone(), &mut d.clone(), &event).unwrap();
+                let answer =
+                    calls::event(&rack, &mut b.clone(), &mut d.clone(), 0, &event).unwrap();
                 let unclaimed = Answer::Unclaimed { crossings: 0, holder: 255, how: Abort::Abort };
                 match answer {
                     Answer::Special { .. } => specials.push((event, answer)),
@@ -191,7 +192,7 @@ fn enables_and_data_play_no_part() {
         for enables in 0..=255 {
             for data in [0, 1, 0x8000_0000, u32::MAX] {
                 let (mut b, mut d) = images.clone();
-                let answer = calls::event(&rack, &mut b, &mut d, &special(bus, enables, data));
+                let answer = calls::event(&rack, &mut b, &mut d, 0, &special(bus, enables, data));
                 let expected = match enables {
                     0..=15 => Ok(Answer::Special { crossings, holder }),
                     _ => Err(13),
@@ -218,9 +219,9 @@ fn refused_before() {
         let (records, rack, (b, d)) = (file.clone().0, file.rack(), file.images());
         let run = |b: &[u8], enables: u8| {
             let (mut b2, mut d2) = (b.to_vec(), d.clone());
-            let over_rack = calls::event(&rack, &mut b2, &mut d2, &special(0, enables, 0));
+            let over_rack = calls::event(&rack, &mut b2, &mut d2, 0, &special(0, enables, 0));
             let event = [4, 0, 0xFF, 0, enables, 0, 0, 0, 0];
-            let over_bytes = calls::event_of_bytes(&records, &event, &mut b2, &mut d2);
+            let over_bytes = calls::event_of_bytes(&records, &event, &mut b2, &mut d2, 0);
             assert_eq!(over_rack, over_bytes);
             assert_eq!((&b2[..], &d2), (b, &d));
             over_bytes
@@ -233,7 +234,7 @@ fn refused_before() {
         assert_eq!(run(&b, 16), Err(13));
         assert_eq!(run(&b, 15), Ok(Answer::Special { crossings: 0, holder: 255 }));
         let event = [4, 0, 0xFF, 0, 15, 0, 0, 0];
-        assert_eq!(calls::event_of_bytes(&records, &event, &mut [], &mut []), Err(3));
+        assert_eq!(calls::event_of_bytes(&records, &event, &mut [], &mut [], 0), Err(3));
     }
 }
 
@@ -256,7 +257,7 @@ fn status_registers_are_untouched() {
     d.chunks_mut(64).for_each(|part| part[0x07] = 0xF9);
     let full = (b.clone(), d.clone());
     for bus in 0..5 {
-        let answer = calls::event(&rack, &mut b, &mut d, &special(bus, 15, u32::MAX));
+        let answer = calls::event(&rack, &mut b, &mut d, 0, &special(bus, 15, u32::MAX));
         assert!(matches!(answer, Ok(Answer::Special { .. })));
         assert_eq!((&b, &d), (&full.0, &full.1));
     }
@@ -274,7 +275,7 @@ fn a_check_is_as_before() {
 }
 
 /// Both images with random bus numbers, master abort modes and status bits.
-fn random_images(random: &mut Random, file: &File) -> (Vec<u8>, Vec<u8>) {
+pub fn random_images(random: &mut Random, file: &File) -> (Vec<u8>, Vec<u8>) {
     let (mut b, mut d) = file.images();
     for part in b.chunks_mut(64) {
         part[0x19] = random.below(6) as u8;
@@ -311,7 +312,7 @@ fn ends_where_the_unclaimed_write_does() {
         for bus in (0..8).chain([255]) {
             let run = |event: &Event| {
                 let (mut b, mut d) = images.clone();
-                (calls::event(&rack, &mut b, &mut d, event).unwrap(), (b, d))
+                (calls::event(&rack, &mut b, &mut d, 0, event).unwrap(), (b, d))
             };
             let (enables, data) = (random.below(16) as u8, random.next() as u32);
             let event = special(bus, enables, data);

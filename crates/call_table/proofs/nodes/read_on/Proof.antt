@@ -20,8 +20,8 @@ view-requires c κs = search needs
 read-register-requires : tie.Need-read-register-requires
 read-register-requires c κs = search needs
 
-cast-t11 : tie.Need-cast-t11
-cast-t11 c = search needs
+cast-t12 : tie.Need-cast-t12
+cast-t12 c = search needs
 
 returns-2 : tie.Need-returns-2
 unfolding readIn
@@ -36,5 +36,5 @@ read-on-spec =
     returns
     view-requires
     read-register-requires
-    cast-t11
+    cast-t12
     returns-2)

@@ -7,6 +7,9 @@ use Rattle.call_table.proofs.runs.run_on.Tie as tie
 event-refusal-requires : tie.Need-event-refusal-requires
 event-refusal-requires c κs = search needs
 
+seat-refusal-requires : tie.Need-seat-refusal-requires
+seat-refusal-requires c κs = search needs
+
 refusal-by-requires : tie.Need-refusal-by-requires
 refusal-by-requires c κs = search needs
 
@@ -38,6 +41,7 @@ run-on-spec =
     tie.close
     (tie.spec
     event-refusal-requires
+    seat-refusal-requires
     refusal-by-requires
     same-length
     same-length-2

@@ -7,8 +7,8 @@ use Rattle.event_run.proofs.ended.ended_at.Tie as tie
 enum-known-end : tie.Need-enum-known-end
 enum-known-end c = search needs
 
-register-of-requires : tie.Need-register-of-requires
-register-of-requires c κs = search needs
+reached-requires : tie.Need-reached-requires
+reached-requires c κs = search needs
 
 same-length : tie.Need-same-length
 same-length c = search needs
@@ -66,7 +66,7 @@ ended-at-spec =
     tie.close
     (tie.spec
     enum-known-end
-    register-of-requires
+    reached-requires
     same-length
     same-length-2
     returns

@@ -1,4 +1,4 @@
-use Rattle.event_run.proofs.Answering.{write-answered, read-answered, memory-answered, io-answered, check-answered}
+use Rattle.event_run.proofs.Answering.{write-answered, read-answered, memory-answered, io-answered, check-answered, seat-answered}
 use borrow.Author.Needs.{needs}
 use Rattle.event_run.proofs.run.answer_event.Statement.{statement}
 use Rattle.event_run.proofs.run.answer_event.Tie as tie
@@ -48,6 +48,9 @@ enum-told c = search needs
 check-rack-requires : tie.Need-check-rack-requires
 check-rack-requires c κs = search needs
 
+enum-known-e-5 : tie.Need-enum-known-e-5
+enum-known-e-5 c = search needs
+
 same-length : tie.Need-same-length
 same-length c = search needs
 
@@ -93,6 +96,9 @@ same-length-10 c = search needs
 returns-5 : tie.Need-returns-5
 returns-5 c = search (check-answered, needs)
 
+returns-6 : tie.Need-returns-6
+returns-6 c = search (seat-answered, needs)
+
 pub answer-event-spec : {M : Type 1} → statement M
 answer-event-spec =
     tie.close
@@ -112,6 +118,7 @@ answer-event-spec =
     accessed-by-requires-2
     enum-told
     check-rack-requires
+    enum-known-e-5
     same-length
     same-length-2
     returns
@@ -126,4 +133,5 @@ answer-event-spec =
     returns-4
     same-length-9
     same-length-10
-    returns-5)
+    returns-5
+    returns-6)

@@ -1,4 +1,4 @@
-use Rattle.file_record.proofs.Records.{write-in, read-in, memory-in, io-in, check-in}
+use Rattle.file_record.proofs.Records.{write-in, read-in, memory-in, io-in, seat-in, check-in}
 use borrow.Author.Needs.{needs}
 use Rattle.file_record.proofs.events.event_in.Statement.{statement}
 use Rattle.file_record.proofs.events.event_in.Tie as tie
@@ -61,7 +61,10 @@ returns-4 : tie.Need-returns-4
 returns-4 c = search (io-in, needs)
 
 returns-5 : tie.Need-returns-5
-returns-5 c = search (check-in, needs)
+returns-5 c = search (seat-in, needs)
+
+returns-6 : tie.Need-returns-6
+returns-6 c = search (check-in, needs)
 
 pub event-in-spec : {M : Type 1} → statement M
 event-in-spec =
@@ -86,4 +89,5 @@ event-in-spec =
     add-dword-in-2
     dword-in-requires-2
     returns-4
-    returns-5)
+    returns-5
+    returns-6)

@@ -30,6 +30,9 @@ access-wrong-requires-2 c κs = search needs
 enum-told : tie.Need-enum-told
 enum-told c = search needs
 
+enum-known-e-5 : tie.Need-enum-known-e-5
+enum-known-e-5 c = search needs
+
 returns : tie.Need-returns
 unfolding eventWrong
 returns c = rw (c .before .before .e .given .1) (c .write-wrong .ensures)
@@ -50,6 +53,10 @@ returns-5 : tie.Need-returns-5
 unfolding eventWrong
 returns-5 c = rw (c .enum-told .given .1)
 
+returns-6 : tie.Need-returns-6
+unfolding eventWrong
+returns-6 c = rw (c .before .e5 .given .1)
+
 pub event-wrong-spec : {M : Type 1} → statement M
 event-wrong-spec =
     tie.close
@@ -63,8 +70,10 @@ event-wrong-spec =
     enum-known-e-4
     access-wrong-requires-2
     enum-told
+    enum-known-e-5
     returns
     returns-2
     returns-3
     returns-4
-    returns-5)
+    returns-5
+    returns-6)

@@ -8,8 +8,11 @@ is-a-requires c κs = search needs
 is-a-requires-2 : tie.Need-is-a-requires-2
 is-a-requires-2 c κs = search needs
 
+is-a-requires-3 : tie.Need-is-a-requires-3
+is-a-requires-3 c κs = search needs
+
 returns : tie.Need-returns
 returns c = cc
 
 pub is-rack-spec : {M : Type 1} → statement M
-is-rack-spec = tie.close (tie.spec is-a-requires is-a-requires-2 returns)
+is-rack-spec = tie.close (tie.spec is-a-requires is-a-requires-2 is-a-requires-3 returns)

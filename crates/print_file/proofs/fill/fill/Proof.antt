@@ -1,21 +1,22 @@
-use Rattle.print_file.proofs.Turns.{FillLeft, turn-inside, turn-fits, turn-past, turn-less, fill-all, fill-end, fill-word, fill-number, fill-onward, fill-next}
+use Rattle.print_file.proofs.Turns.{FillLeft, turn-inside, turn-fits, turn-less, fill-all, fill-end, fill-word, fill-onward, fill-next}
 use mathlib.Core.Path.{_≡_, refl}
 use Prim.Native.Nat.{_-_}
 use lib.ListN.{length}
 use borrow.Author.Needs.{needs}
 use Rattle.rack.specs.definitions.Table.{treeOf}
+use Rattle.seat.specs.definitions.Table.{grantsOf}
 use Rattle.register_image.specs.definitions.Image.{images}
 use Rattle.print_file.proofs.fill.fill.Statement.{statement}
 use Rattle.print_file.proofs.fill.fill.Tie as tie
 
 abbrev Inv-loop : tie.InvT-loop
-Inv-loop file table bridges₀ devices₀ out₀ next₀ len₀ bridges devices out next len =
-    (FillLeft (treeOf table) file out₀ next₀ (images bridges₀ devices₀) out next len (images bridges devices))
+Inv-loop file table grants bridges₀ devices₀ out₀ next₀ len₀ bridges devices out next len =
+    (FillLeft (treeOf table) (grantsOf grants) file out₀ next₀ (images bridges₀ devices₀) out next len (images bridges devices))
     × (length bridges ≡ length bridges₀)
     × (length devices ≡ length devices₀)
 
 abbrev μ-loop : tie.MeasureT-loop
-μ-loop file table bridges₀ devices₀ out₀ next₀ len₀ bridges devices out next len = length file - next .offset
+μ-loop file table grants bridges₀ devices₀ out₀ next₀ len₀ bridges devices out next len = length file - next .offset
 
 loop-holds : tie.Need-loop-holds Inv-loop μ-loop
 loop-holds c = (search (fill-all, needs), refl, refl)
@@ -44,17 +45,8 @@ put-line-requires c κs = (search needs, search (turn-fits, needs))
 add-len : tie.Need-add-len Inv-loop μ-loop
 add-len c = search (fill-word, needs)
 
-byte-at-requires : tie.Need-byte-at-requires Inv-loop μ-loop
-byte-at-requires c κs = search needs
-
-size-of-requires : tie.Need-size-of-requires Inv-loop μ-loop
-size-of-requires c κs = search needs
-
-add-t12 : tie.Need-add-t12 Inv-loop μ-loop
-add-t12 c = search (turn-past, needs)
-
-add-t24 : tie.Need-add-t24 Inv-loop μ-loop
-add-t24 c = search (fill-number, needs)
+past-requires : tie.Need-past-requires Inv-loop μ-loop
+past-requires c κs = (search (turn-inside, needs), search needs)
 
 loop-less : tie.Need-loop-less Inv-loop μ-loop
 loop-less c = search (turn-less, needs)
@@ -77,9 +69,6 @@ fill-spec =
     run-line-requires
     put-line-requires
     add-len
-    byte-at-requires
-    size-of-requires
-    add-t12
-    add-t24
+    past-requires
     loop-less
     loop-again)

@@ -50,6 +50,12 @@ enum-told-2 c = search needs
 silent-line-requires : tie.Need-silent-line-requires
 silent-line-requires c κs = search needs
 
+enum-told-3 : tie.Need-enum-told-3
+enum-told-3 c = search needs
+
+denied-line-requires : tie.Need-denied-line-requires
+denied-line-requires c κs = search needs
+
 returns : tie.Need-returns
 returns c = rw (c .before .before .e .given .1) (c .data-line .ensures)
 
@@ -74,6 +80,9 @@ returns-7 c = rw (c .before .before .e6 .given .1) (c .special-line .ensures)
 returns-8 : tie.Need-returns-8
 returns-8 c = rw (c .before .enum-told2 .given .1) (c .silent-line .ensures)
 
+returns-9 : tie.Need-returns-9
+returns-9 c = rw (c .before .enum-told3 .given .1) (c .denied-line .ensures)
+
 pub ending-line-spec : {M : Type 1} → statement M
 ending-line-spec =
     tie.close
@@ -94,6 +103,8 @@ ending-line-spec =
     special-line-requires
     enum-told-2
     silent-line-requires
+    enum-told-3
+    denied-line-requires
     returns
     returns-2
     returns-3
@@ -101,4 +112,5 @@ ending-line-spec =
     returns-5
     returns-6
     returns-7
-    returns-8)
+    returns-8
+    returns-9)

@@ -1,7 +1,7 @@
 use Prim.Native.Nat.{_-_}
 use borrow.Author.Needs.{needs}
-use Rattle.callrun.proofs.asked.rack_in.Statement.{statement}
-use Rattle.callrun.proofs.asked.rack_in.Tie as tie
+use Rattle.callrun.proofs.asked.nodes_in.Statement.{statement}
+use Rattle.callrun.proofs.asked.nodes_in.Tie as tie
 
 abbrev Inv-loop : tie.InvT-loop
 Inv-loop bytes nodes₀ i₀ nodes i = Unit {0}
@@ -39,20 +39,11 @@ loop-less c = search needs
 loop-again : tie.Need-loop-again Inv-loop μ-loop
 loop-again c = tt
 
-qword-in-requires : tie.Need-qword-in-requires Inv-loop μ-loop
-qword-in-requires c κs = search needs
-
-qword-in-requires-2 : tie.Need-qword-in-requires-2 Inv-loop μ-loop
-qword-in-requires-2 c κs = search needs
-
-byte-at-requires : tie.Need-byte-at-requires Inv-loop μ-loop
-byte-at-requires c κs = search needs
-
 returns : tie.Need-returns Inv-loop μ-loop
 returns c = tt
 
-pub rack-in-spec : {M : Type 1} → statement M
-rack-in-spec =
+pub nodes-in-spec : {M : Type 1} → statement M
+nodes-in-spec =
     tie.close
     (tie.spec
     Inv-loop
@@ -67,7 +58,4 @@ rack-in-spec =
     add-i
     loop-less
     loop-again
-    qword-in-requires
-    qword-in-requires-2
-    byte-at-requires
     returns)

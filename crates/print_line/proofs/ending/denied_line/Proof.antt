@@ -1,0 +1,27 @@
+use Rattle.print_line.specs.definitions.Text.{codesOf}
+use Rattle.print_line.proofs.Fields.{line-field, line-ended}
+use Rattle.print_line.specs.definitions.Line.{endingFields}
+use borrow.Author.Needs.{needs}
+use Rattle.print_line.proofs.ending.denied_line.Statement.{statement}
+use Rattle.print_line.proofs.ending.denied_line.Tie as tie
+
+slice-aggregate-begun : tie.Need-slice-aggregate-begun
+slice-aggregate-begun c = search needs
+
+begun-requires : tie.Need-begun-requires
+begun-requires c κs = search needs
+
+decimal-field-requires : tie.Need-decimal-field-requires
+decimal-field-requires c κs = search needs
+
+byte-requires : tie.Need-byte-requires
+byte-requires c κs = search needs
+
+returns : tie.Need-returns
+unfolding endingFields codesOf
+returns c = (search (line-field, line-ended, needs), search needs)
+
+pub denied-line-spec : {M : Type 1} → statement M
+denied-line-spec =
+    tie.close
+    (tie.spec slice-aggregate-begun begun-requires decimal-field-requires byte-requires returns)

@@ -1,0 +1,4 @@
+pub mod Kept
+pub mod Running
+pub mod Denied
+pub mod Before

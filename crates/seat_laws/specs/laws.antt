@@ -1,0 +1,5 @@
+pub mod Kept
+pub mod Events
+pub mod Files
+pub mod Denied
+pub mod Before
