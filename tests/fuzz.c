@@ -1,10 +1,11 @@
 /* The archive's calls on any bytes: an entry for a coverage-guided fuzzer, and a driver of its own.
  *
- * An input is one call of a script (CALLS.md, operations 8 to 12), its counts cut to the bytes that are there. Every buffer ends at a
- * page that may not be touched: the archive is not compiled with a sanitizer, and a step past a buffer's end is then seen all the same.
- * What a call promises in general is looked at: 0 or the number of a refusal; on a refusal all 0 and both images untouched; a denied write
- * leaves both images too, and the event of a seat other than 0 leaves what the seat may not write, but for status bits; a step of the
- * arbiter grants a requester, and the next step takes the state that it gives.
+ * An input is one call of a script (CALLS.md, operations 8 to 12, 14 and 15), its counts cut to the bytes that are there. Every buffer ends
+ * at a page that may not be touched: the archive is not compiled with a sanitizer, and a step past a buffer's end is seen all the same.
+ * What a call promises in general is looked at: 0 or the number of a refusal; on a refusal all 0, and both images and the lent buffer
+ * untouched; a denied write leaves both images too, and the event of a seat other than 0 leaves what the seat may not write, but for
+ * status bits; a saved file fits its buffer and leaves what is past it, a byte less refuses it, it opens to the registers that were saved,
+ * and saved again it has the same bytes; a step of the arbiter grants a requester, and the next step takes the state that it gives.
  *
  *     clang -g -O1 -fsanitize=fuzzer,address tests/fuzz.c -Ltarget/staticlib -lmuzgante     (libFuzzer)
  *     tests/fuzz [CALLS [SEED]]                                                             (gcc, the driver below)
@@ -20,14 +21,18 @@
 
 int LLVMFuzzerTestOneInput(const uint8_t *input, size_t size);
 
-enum { HEAD = 18, ROOM = 1 << 18, ANSWER_BYTES = 8 * RACK_ANSWER_NUMBERS };
+enum { HEAD = 18, ROOM = 1 << 18, ANSWER_BYTES = 8 * RACK_ANSWER_NUMBERS, MOST_LENT = 16384 };
 
-/* Bytes that end where a guarded page begins. */
-struct guarded {
-    uint8_t *end;
-};
+/* What a call is given, then its answer, two lent buffers, and what two files are opened with: each a file and both images. */
+enum { RACK, EVENT, BRIDGES, DEVICES, PARTS, ANSWER = PARTS, LENT, AGAIN, OPENED, REOPENED = OPENED + 3, ROOMS = REOPENED + 3 };
 
-static struct guarded guard(void)
+/* Operations 8 to 15, modulo 8. */
+enum { RUN, CHECK, RESET, WINDOW, SAVE = 6, OPEN = 7 };
+
+/* Where each of them ends: a guarded page begins there. */
+static uint8_t *ends[ROOMS];
+
+static uint8_t *guard(void)
 {
     size_t page = (size_t)sysconf(_SC_PAGESIZE);
     uint8_t *at = mmap(NULL, ROOM + page, PROT_READ | PROT_WRITE, MAP_PRIVATE | MAP_ANONYMOUS, -1, 0);
@@ -35,13 +40,19 @@ static struct guarded guard(void)
         perror("fuzz");
         exit(1);
     }
-    return (struct guarded){at + ROOM};
+    return at + ROOM;
 }
 
-static uint8_t *put(struct guarded g, const uint8_t *bytes, size_t count)
-{
-    return memcpy(g.end - count, bytes, count);
-}
+static uint8_t *put(int room, const uint8_t *bytes, size_t count) { return memcpy(ends[room] - count, bytes, count); }
+
+static uint8_t *fill(int room, uint8_t byte, size_t count) { return memset(ends[room] - count, byte, count); }
+
+/* A call's parts, each at the end of its room, and as they are given. */
+struct call {
+    const uint8_t *head, *from[PARTS];
+    uint8_t *at[PARTS];
+    size_t count[PARTS];
+};
 
 static size_t number(const uint8_t *at, int count)
 {
@@ -129,64 +140,167 @@ static void within_grants(const struct node *nodes, size_t count, const uint8_t 
     }
 }
 
+static void look_at_run(const struct call *c, const uint64_t *answer, int is_same)
+{
+    uint8_t seat = c->head[11];
+    int is_quiet = answer[0] == RACK_ENDED_DENIED || answer[0] == RACK_ENDED_SEAT;
+    expect(is_same || !is_quiet, "a denied write or a seat event changed an image");
+    expect(seat != RACK_SEAT_ALL || answer[0] != RACK_ENDED_DENIED, "a write of seat 0 was denied");
+    if (seat != RACK_SEAT_ALL) {
+        struct node nodes[RACK_MOST_NODES];
+        const uint8_t *const now[] = {c->at[BRIDGES], c->at[DEVICES]}, *const before[] = {c->from[BRIDGES], c->from[DEVICES]};
+        within_grants(nodes, nodes_of(c->at[RACK], c->count[RACK], seat, nodes), now, before);
+    }
+}
+
+/* A rack and its registers, saved into a buffer of so many bytes in that room: a refusal leaves all of it, a file what is past it. */
+static uint8_t save_into(int room, size_t lent, const struct call *c, uint64_t answer[RACK_ANSWER_NUMBERS])
+{
+    uint8_t *buffer = fill(room, c->head[13], lent);
+    uint8_t code = rack_save(c->at[RACK], c->count[RACK], c->at[BRIDGES], c->count[BRIDGES], c->at[DEVICES], c->count[DEVICES], buffer,
+                             lent, answer);
+    size_t length = code == 0 ? (size_t)answer[0] : 0;
+    expect(length <= lent && length <= RACK_MOST_SAVED_BYTES, "a saved file is longer than its buffer or than any");
+    for (size_t i = length; i < lent; i++) {
+        expect(buffer[i] == c->head[13], "a buffer was written where nothing is saved");
+    }
+    return code;
+}
+
+/* A file opened in that room into images of these lengths; then `opened` is its rack and its registers. */
+static uint8_t open_again(int room, const uint8_t *file, size_t count, size_t bridges, size_t devices, struct call *opened)
+{
+    uint64_t answer[RACK_ANSWER_NUMBERS];
+    opened->at[RACK] = put(room, file, count);
+    opened->at[BRIDGES] = fill(room + 1, 0xA5, opened->count[BRIDGES] = bridges);
+    opened->at[DEVICES] = fill(room + 2, 0xA5, opened->count[DEVICES] = devices);
+    uint8_t code = rack_open(opened->at[RACK], count, opened->at[BRIDGES], bridges, opened->at[DEVICES], devices, answer);
+    if (code == 0) {
+        expect(answer[0] <= count, "more bytes stand before the registers than there are");
+        expect(bridges == RACK_NODE_BYTES * answer[1] && devices == RACK_NODE_BYTES * answer[2], "a file's counts are not its images'");
+        opened->count[RACK] = (size_t)answer[0];
+    }
+    return code;
+}
+
+static void same_registers(const struct call *a, const struct call *b, const char *what)
+{
+    for (int i = BRIDGES; i <= DEVICES; i++) {
+        expect(a->count[i] == b->count[i] && memcmp(a->at[i], b->at[i], a->count[i]) == 0, what);
+    }
+}
+
+/* A saved file opens to the registers that were saved, and saved again it has the same bytes. */
+static void look_at_saved(const uint8_t *file, size_t length, const struct call *c)
+{
+    uint64_t answer[RACK_ANSWER_NUMBERS];
+    struct call opened = {.head = c->head};
+    uint8_t code = open_again(REOPENED, file, length, c->count[BRIDGES], c->count[DEVICES], &opened);
+    expect(code == 0, "a saved file is refused");
+    same_registers(&opened, c, "a saved file opens to other registers");
+    expect(save_into(AGAIN, length, &opened, answer) == 0 && answer[0] == length, "an opened file cannot be saved again");
+    expect(memcmp(ends[AGAIN] - length, file, length) == 0, "an opened file is saved as another one");
+}
+
+static uint8_t save_rack(const struct call *c, uint64_t answer[RACK_ANSWER_NUMBERS])
+{
+    uint64_t other[RACK_ANSWER_NUMBERS];
+    size_t lent = number(c->head + 14, 4) % (MOST_LENT + 1);
+    uint8_t code = save_into(LENT, lent, c, answer);
+    if (code == 0) {
+        look_at_saved(ends[LENT] - lent, (size_t)answer[0], c);
+        expect(save_into(AGAIN, (size_t)answer[0] - 1, c, other) == RACK_REFUSED_IMAGE_LENGTH, "a buffer that lacks a byte is taken");
+    } else if (code == RACK_REFUSED_IMAGE_LENGTH && save_into(AGAIN, RACK_MOST_SAVED_BYTES, c, other) == 0) {
+        expect(other[0] > lent, "a buffer that is long enough is refused");
+    }
+    return code;
+}
+
+static uint8_t open_file(const struct call *c, uint64_t answer[RACK_ANSWER_NUMBERS])
+{
+    uint64_t saved[RACK_ANSWER_NUMBERS];
+    struct call opened = {.head = c->head};
+    uint8_t code = rack_open(c->at[RACK], c->count[RACK], c->at[BRIDGES], c->count[BRIDGES], c->at[DEVICES], c->count[DEVICES], answer);
+    if (code != 0 && code != RACK_REFUSED_IMAGE_LENGTH) {
+        return code;
+    }
+    expect(answer[1] <= RACK_MOST_BRIDGES && answer[2] <= RACK_MOST_DEVICES, "an opened file has too many nodes");
+    size_t bridges = RACK_NODE_BYTES * (size_t)answer[1], devices = RACK_NODE_BYTES * (size_t)answer[2];
+    expect((code == 0) == (bridges == c->count[BRIDGES] && devices == c->count[DEVICES]), "11 is not what the counts say");
+    uint8_t right = open_again(OPENED, c->at[RACK], c->count[RACK], bridges, devices, &opened);
+    expect(right == 0, "a file with the images it asks for is refused");
+    expect(save_into(LENT, RACK_MOST_SAVED_BYTES, &opened, saved) == 0, "an opened file cannot be saved");
+    look_at_saved(ends[LENT] - RACK_MOST_SAVED_BYTES, (size_t)saved[0], &opened);
+    if (code == 0) {
+        same_registers(&opened, c, "a file opens to other registers the second time");
+    } else {
+        answer[1] = answer[2] = 0; /* a refusal leaves the rest 0 */
+    }
+    return code;
+}
+
+static uint8_t make(const struct call *c, uint64_t answer[RACK_ANSWER_NUMBERS])
+{
+    const uint8_t *rack = c->at[RACK], *head = c->head;
+    uint8_t *bridges = c->at[BRIDGES], *devices = c->at[DEVICES];
+    size_t count = c->count[RACK], bridges_count = c->count[BRIDGES], devices_count = c->count[DEVICES];
+    switch (head[0] % 8) {
+    case RUN:
+        return rack_run(rack, count, head[11], c->at[EVENT], c->count[EVENT], bridges, bridges_count, devices, devices_count, answer);
+    case CHECK:
+        return rack_check(rack, count, bridges, bridges_count, devices, devices_count, answer);
+    case RESET:
+        memset(answer, 0, ANSWER_BYTES);
+        return rack_reset(rack, count, bridges, bridges_count, devices, devices_count);
+    case WINDOW:
+        return rack_window(rack, count, bridges, bridges_count, devices, devices_count, head[11], head[12], answer);
+    case SAVE:
+        return save_rack(c, answer);
+    case OPEN:
+        return open_file(c, answer);
+    default:
+        return step(head, answer);
+    }
+}
+
+static struct call call_of(const uint8_t *input, size_t size)
+{
+    static const int offset[] = {1, 5, 7, 9}, bytes[] = {4, 2, 2, 2};
+    struct call c = {.head = input};
+    size_t left = size - HEAD;
+    const uint8_t *next = input + HEAD;
+    for (int i = 0; i < PARTS; i++) {
+        c.count[i] = cut(number(input + offset[i], bytes[i]), &left);
+        c.from[i] = next;
+        c.at[i] = put(i, next, c.count[i]);
+        next += c.count[i];
+    }
+    return c;
+}
+
+static int is_as_given(const struct call *c, int part) { return memcmp(c->at[part], c->from[part], c->count[part]) == 0; }
+
 int LLVMFuzzerTestOneInput(const uint8_t *input, size_t size)
 {
-    static struct guarded buffers[5];
-    if (buffers[0].end == NULL) {
-        for (int i = 0; i < 5; i++) {
-            buffers[i] = guard();
-        }
+    for (int i = 0; i < ROOMS && ends[i] == NULL; i++) {
+        ends[i] = guard();
     }
     if (size < HEAD || size > ROOM) {
         return 0;
     }
-    size_t left = size - HEAD, counts[4];
-    const uint8_t *from[4], *next = input + HEAD;
-    for (int i = 0; i < 4; i++) {
-        static const int offset[] = {1, 5, 7, 9}, bytes[] = {4, 2, 2, 2};
-        counts[i] = cut(number(input + offset[i], bytes[i]), &left);
-        from[i] = next;
-        next += counts[i];
-    }
-    uint8_t *rack = put(buffers[0], from[0], counts[0]), *event = put(buffers[1], from[1], counts[1]);
-    uint8_t *bridges = put(buffers[2], from[2], counts[2]), *devices = put(buffers[3], from[3], counts[3]);
-    uint64_t *answer = (uint64_t *)(void *)(buffers[4].end - ANSWER_BYTES), zeros[RACK_ANSWER_NUMBERS] = {0};
-    memset(answer, 0xA5, ANSWER_BYTES);
-    uint8_t code, seat = input[11];
-    int is_run = 0;
-    switch ((input[0] + 2) % 5) { /* operation 8 is the first */
-    case 0:
-        is_run = 1;
-        code = rack_run(rack, counts[0], seat, event, counts[1], bridges, counts[2], devices, counts[3], answer);
-        break;
-    case 1:
-        code = rack_check(rack, counts[0], bridges, counts[2], devices, counts[3], answer);
-        break;
-    case 2:
-        memset(answer, 0, ANSWER_BYTES);
-        code = rack_reset(rack, counts[0], bridges, counts[2], devices, counts[3]);
-        break;
-    case 3:
-        code = rack_window(rack, counts[0], bridges, counts[2], devices, counts[3], input[11], input[12], answer);
-        break;
-    default:
-        code = step(input, answer);
-    }
-    expect(code <= RACK_REFUSED_SEAT || code == RACK_REFUSED_ARBITER, "a number that is no refusal");
-    expect(memcmp(rack, from[0], counts[0]) == 0 && memcmp(event, from[1], counts[1]) == 0, "the rack or the event was written");
-    int is_same = memcmp(bridges, from[2], counts[2]) == 0 && memcmp(devices, from[3], counts[3]) == 0;
+    struct call c = call_of(input, size);
+    uint64_t *answer = (uint64_t *)(void *)fill(ANSWER, 0xA5, ANSWER_BYTES), zeros[RACK_ANSWER_NUMBERS] = {0};
+    int operation = input[0] % 8, most = operation == OPEN ? RACK_REFUSED_REGISTERS_VALUE : RACK_REFUSED_SEAT;
+    uint8_t code = make(&c, answer);
+    expect(code <= most || code == RACK_REFUSED_ARBITER, "a number that is no refusal");
+    expect(is_as_given(&c, RACK) && is_as_given(&c, EVENT), "the rack or the event was written");
+    int is_same = is_as_given(&c, BRIDGES) && is_as_given(&c, DEVICES);
+    expect(is_same || operation != SAVE, "saving changed an image");
     if (code != 0) {
         expect(memcmp(answer, zeros, ANSWER_BYTES) == 0, "a refused answer is not all 0");
         expect(is_same, "a refusal changed an image");
-    } else if (is_run) {
-        struct node nodes[RACK_MOST_NODES];
-        const uint8_t *const now[] = {bridges, devices}, *const before[] = {from[2], from[3]};
-        int is_quiet = answer[0] == RACK_ENDED_DENIED || answer[0] == RACK_ENDED_SEAT;
-        expect(is_same || !is_quiet, "a denied write or a seat event changed an image");
-        expect(seat != RACK_SEAT_ALL || answer[0] != RACK_ENDED_DENIED, "a write of seat 0 was denied");
-        if (seat != RACK_SEAT_ALL) {
-            within_grants(nodes, nodes_of(rack, counts[0], seat, nodes), now, before);
-        }
+    } else if (operation == RUN) {
+        look_at_run(&c, answer, is_same);
     }
     return 0;
 }

@@ -7,7 +7,7 @@
 #include <stdlib.h>
 #include <string.h>
 
-enum { RECORD = 1 + RACK_BODY_HOST, MOST = RACK_MOST_BYTES + 1 }; /* no record is longer than a host's */
+enum { RECORD = 1 + RACK_BODY_HOST, MOST = RACK_MOST_BYTES + 1 }; /* no event is longer than a host's record */
 
 static void expect(int is_true, const char *what)
 {
@@ -46,6 +46,12 @@ static void add_seat(struct rack *r, uint8_t seat, uint8_t node, uint16_t mask)
     r->bytes[r->count - 1] = (uint8_t)(mask >> 8);
 }
 
+static void add_registers(struct rack *r, uint8_t node, const uint8_t *registers)
+{
+    memcpy(&r->bytes[r->count + 2], registers, RACK_NODE_BYTES);
+    add(r, RACK_KIND_REGISTERS, RACK_BODY_REGISTERS, node, registers[0]);
+}
+
 /* Host memory is the address 0 alone. */
 static void start(struct rack *r)
 {
@@ -70,6 +76,27 @@ static uint8_t run_as(const struct rack *r, uint8_t seat, const uint8_t *event, 
 static uint8_t run(const struct rack *r, const uint8_t *event, size_t count, uint64_t answer[RACK_ANSWER_NUMBERS])
 {
     return run_as(r, RACK_SEAT_ALL, event, count, answer);
+}
+
+static uint8_t save(const struct rack *r, uint8_t *buffer, size_t count, uint64_t answer[RACK_ANSWER_NUMBERS])
+{
+    return rack_save(r->bytes, r->count, bridges, RACK_NODE_BYTES * r->bridges, devices, RACK_NODE_BYTES * r->devices, buffer, count,
+                     answer);
+}
+
+static uint8_t open_file(const struct rack *r, uint64_t answer[RACK_ANSWER_NUMBERS])
+{
+    return rack_open(r->bytes, r->count, bridges, RACK_NODE_BYTES * r->bridges, devices, RACK_NODE_BYTES * r->devices, answer);
+}
+
+static int is_all(const void *bytes, size_t count, uint8_t value)
+{
+    const uint8_t *at = bytes;
+    size_t same = 0;
+    while (same < count && at[same] == value) {
+        same++;
+    }
+    return same == count;
 }
 
 static struct rack r;
@@ -175,6 +202,14 @@ static void start_lesson(void)
     bridges[0x19] = bridges[0x1A] = 5; /* secondary and subordinate bus */
 }
 
+/* The same, with its registers apart, so that the images can be filled anew. */
+static void start_apart(uint8_t bridge[RACK_NODE_BYTES], uint8_t device[RACK_NODE_BYTES])
+{
+    start_lesson();
+    memcpy(bridge, bridges, RACK_NODE_BYTES);
+    memcpy(device, devices, RACK_NODE_BYTES);
+}
+
 /* A write outside the grant is denied behind its bridge and stores nothing; inside, from 40h on, and by the seat for all it is stored. */
 static void denied_write(void)
 {
@@ -228,7 +263,192 @@ static void seat_records(void)
         expect(run_as(&r, 9, check, sizeof check, answer) == refused, "a faulty seat record is taken by rack_run");
         expect(rack_check(r.bytes, r.count, bridges, one, devices, one, answer) == refused, "one is taken by rack_check");
         expect(rack_window(r.bytes, r.count, bridges, one, devices, one, 0, 0, answer) == refused, "one is taken by rack_window");
+        expect(rack_save(r.bytes, r.count, bridges, one, devices, one, check, 1, answer) == refused, "one is taken by rack_save");
+        expect(open_file(&r, answer) == refused, "one is taken by rack_open");
     }
+}
+
+enum { FILL = 0xA5 }; /* of what a call has to leave as it is */
+
+/* The rack's records and then the bridge's registers, since the device is at reset; what is past the file stays. */
+static void saved_file(void)
+{
+    uint8_t buffer[RACK_MOST_SAVED_BYTES];
+    uint64_t answer[RACK_ANSWER_NUMBERS];
+    start_lesson();
+    struct rack whole = r;
+    add_registers(&whole, 0, bridges);
+    memset(buffer, FILL, sizeof buffer);
+    expect(save(&r, buffer, sizeof buffer, answer) == 0 && answer[0] == whole.count && is_all(&answer[1], 7 * sizeof *answer, 0),
+           "a saved rack has another length");
+    expect(memcmp(buffer, whole.bytes, whole.count) == 0, "a saved rack has other bytes");
+    expect(is_all(&buffer[whole.count], sizeof buffer - whole.count, FILL), "a byte past the file is written");
+    expect(save(&r, buffer, whole.count, answer) == 0, "a buffer that is just long enough is refused");
+    memset(buffer, FILL, sizeof buffer);
+    expect(save(&r, buffer, whole.count - 1, answer) == RACK_REFUSED_IMAGE_LENGTH, "a buffer that lacks a byte is taken");
+    expect(is_all(buffer, sizeof buffer, FILL) && is_all(answer, sizeof answer, 0), "a short buffer or its answer is written");
+}
+
+/* Each refusal of rack_save that is not of the rack's bytes, also where the buffer is too short. */
+static void refused_save(void)
+{
+    uint8_t none[1] = {FILL};
+    uint64_t answer[RACK_ANSWER_NUMBERS];
+    const size_t one = RACK_NODE_BYTES;
+    start_lesson();
+    expect(rack_save(r.bytes, r.count, bridges, one - 1, devices, one, none, 0, answer) == RACK_REFUSED_IMAGE_LENGTH, "a short image");
+    expect(rack_save(r.bytes, r.count, bridges, one, devices, one + 1, none, 0, answer) == RACK_REFUSED_IMAGE_LENGTH, "a long image");
+    devices[0]++;
+    expect(save(&r, none, sizeof none, answer) == RACK_REFUSED_FIXED_BIT, "a fixed bit that is changed is saved");
+    expect(none[0] == FILL && is_all(answer, sizeof answer, 0), "a refused rack_save writes");
+}
+
+/* Seats in another order and other addresses of a host without memory are the same file; with the first address equal to the last
+ * there is memory. */
+static void one_form(void)
+{
+    uint8_t one[RACK_MOST_SAVED_BYTES], other[RACK_MOST_SAVED_BYTES];
+    uint64_t answer[RACK_ANSWER_NUMBERS];
+    start_lesson();
+    r.bytes[1] = 9;
+    expect(save(&r, one, sizeof one, answer) == 0, "a rack without host memory is not saved");
+    expect(one[1] == 1 && is_all(&one[2], RACK_BODY_HOST - 1, 0), "no host memory is saved as something else than 1 and 0");
+    const size_t pair = 1 + RACK_BODY_SEAT;
+    r.bytes[RACK_BODY_HOST] = r.bytes[8] = UINT8_MAX; /* first above last still */
+    memcpy(other, &r.bytes[r.count - 2 * pair], pair);
+    memmove(&r.bytes[r.count - 2 * pair], &r.bytes[r.count - pair], pair);
+    memcpy(&r.bytes[r.count - pair], other, pair);
+    expect(save(&r, other, sizeof other, answer) == 0 && memcmp(one, other, answer[0]) == 0, "equal racks are saved as two files");
+    r.bytes[1] = 0;
+    expect(save(&r, other, sizeof other, answer) == 0 && memcmp(one, other, answer[0]) != 0, "host memory of one address is none");
+}
+
+/* A file with registers and an event: what stands before them is the rack, and the images are those that a run starts from. */
+static void opened_file(void)
+{
+    uint64_t answer[RACK_ANSWER_NUMBERS];
+    uint8_t bridge[RACK_NODE_BYTES], device[RACK_NODE_BYTES];
+    start_apart(bridge, device);
+    struct rack whole = r;
+    add_registers(&whole, 0, bridge);
+    add(&whole, RACK_KIND_CHECK, RACK_BODY_CHECK, 0, 0);
+    memset(bridges, FILL, sizeof bridges);
+    memset(devices, FILL, sizeof devices);
+    expect(rack_open(whole.bytes, whole.count, bridges, 0, devices, 0, answer) == RACK_REFUSED_IMAGE_LENGTH, "images of no bytes are taken");
+    expect(answer[0] == 0 && answer[1] == r.bridges && answer[2] == r.devices, "the counts of a file are other ones");
+    expect(is_all(bridges, sizeof bridges, FILL) && is_all(devices, sizeof devices, FILL), "images of the wrong length are filled");
+    expect(open_file(&whole, answer) == 0 && answer[0] == r.count && answer[1] == r.bridges && answer[2] == r.devices,
+           "a file is not opened, or has another rack");
+    expect(memcmp(bridges, bridge, sizeof bridge) == 0 && memcmp(devices, device, sizeof device) == 0, "a file has other registers");
+    expect(open_file(&r, answer) == 0 && answer[0] == r.count, "a file without registers and events has another rack");
+    expect(is_all(&bridges[0x19], 2, 0), "a file without registers does not start from reset");
+}
+
+/* A refused file leaves both images and no number. */
+static void expect_refused(const struct rack *file, uint8_t refused, const char *what)
+{
+    uint64_t answer[RACK_ANSWER_NUMBERS];
+    memset(bridges, FILL, sizeof bridges);
+    memset(devices, FILL, sizeof devices);
+    expect(open_file(file, answer) == refused, what);
+    expect(is_all(bridges, sizeof bridges, FILL) && is_all(devices, sizeof devices, FILL), "a refused file fills an image");
+    expect(is_all(answer, sizeof answer, 0), "a refused file has numbers");
+}
+
+/* The register records of a lesson with both nodes changed. */
+static void refused_registers(void)
+{
+    uint8_t bridge[RACK_NODE_BYTES], device[RACK_NODE_BYTES];
+    start_apart(bridge, device);
+    struct rack file = r;
+    add_registers(&file, 2, device);
+    expect_refused(&file, RACK_REFUSED_REGISTERS_NODE, "the registers of a missing node are taken");
+    file = r;
+    add_registers(&file, 1, device);
+    expect_refused(&file, RACK_REFUSED_REGISTERS_VALUE, "registers at reset are taken");
+    device[0]++;
+    file = r;
+    add_registers(&file, 1, device);
+    expect_refused(&file, RACK_REFUSED_REGISTERS_VALUE, "a fixed bit that is changed is taken");
+    device[0]--;
+    device[4] = 7; /* command */
+    file = r;
+    add_registers(&file, 1, device);
+    add_registers(&file, 0, bridge);
+    expect_refused(&file, RACK_REFUSED_REGISTERS_NODE, "registers in another order are taken");
+    file = r;
+    add_registers(&file, 1, device);
+    add_registers(&file, 1, device);
+    expect_refused(&file, RACK_REFUSED_REGISTERS_NODE, "the same registers are taken twice");
+    file.count--;
+    expect_refused(&file, RACK_REFUSED_CUT_SHORT, "registers that lack a byte are taken");
+}
+
+/* What may not follow registers or an event, and faulty events, which rack_open looks at too. */
+static void refused_order(void)
+{
+    start_lesson();
+    add_registers(&r, 0, bridges);
+    struct rack file = r;
+    add_bridge(&file, RACK_NODE_HOST, 1);
+    expect_refused(&file, RACK_REFUSED_AFTER_EVENT, "a bridge after registers is taken");
+    file = r;
+    add_seat(&file, 1, 0, 0);
+    expect_refused(&file, RACK_REFUSED_AFTER_EVENT, "a seat after registers is taken");
+    file = r;
+    add(&file, RACK_KIND_HOST, RACK_BODY_HOST, 0, 0);
+    expect_refused(&file, RACK_REFUSED_HOST, "a host after registers is taken");
+    file = r;
+    add(&file, RACK_KIND_CHECK, RACK_BODY_CHECK, 0, 0);
+    add_registers(&file, 1, bridges);
+    expect_refused(&file, RACK_REFUSED_AFTER_EVENT, "registers after an event are taken");
+    file = r;
+    add(&file, RACK_KIND_SEAT_EVENT, RACK_BODY_SEAT_EVENT, 3, 0);
+    expect_refused(&file, RACK_REFUSED_SEAT, "a seat event without a record is taken");
+    file = r;
+    add(&file, RACK_KIND_MEMORY, RACK_BODY_MEMORY, 0, 0);
+    expect_refused(&file, RACK_REFUSED_FIELD, "a bridge as initiator is taken");
+    file = r;
+    add(&file, 12, 0, 0, 0);
+    expect_refused(&file, RACK_REFUSED_KIND, "kind 12 is taken");
+}
+
+/* Registers stand in files alone: in the rack of a call, and as an event, their kind is none. */
+static void registers_in_a_call(void)
+{
+    uint64_t answer[RACK_ANSWER_NUMBERS];
+    uint8_t check[] = {RACK_KIND_CHECK}, event[1 + RACK_BODY_REGISTERS] = {RACK_KIND_REGISTERS};
+    const size_t one = RACK_NODE_BYTES;
+    const uint8_t refused = RACK_REFUSED_KIND;
+    start_lesson();
+    expect(run(&r, event, sizeof event, answer) == refused, "registers are run as an event");
+    add_registers(&r, 0, bridges);
+    expect(reset(&r) == refused, "registers are taken by rack_reset");
+    expect(run(&r, check, sizeof check, answer) == refused, "registers are taken by rack_run");
+    expect(rack_check(r.bytes, r.count, bridges, one, devices, one, answer) == refused, "registers are taken by rack_check");
+    expect(rack_window(r.bytes, r.count, bridges, one, devices, one, 0, 0, answer) == refused, "registers are taken by rack_window");
+    expect(rack_save(r.bytes, r.count, bridges, one, devices, one, check, 1, answer) == refused, "registers are taken by rack_save");
+}
+
+/* Every node that there is room for with every seat, and none at reset. */
+static void longest_saved(const struct rack *full)
+{
+    static uint8_t buffer[RACK_MOST_SAVED_BYTES];
+    uint64_t answer[RACK_ANSWER_NUMBERS];
+    struct rack seated = *full;
+    for (unsigned i = 0; i < RACK_MOST_NODES * RACK_MOST_SEATS; i++) {
+        add_seat(&seated, (uint8_t)(1 + i % RACK_MOST_SEATS), (uint8_t)(i / RACK_MOST_SEATS), UINT16_MAX);
+    }
+    expect(reset(&seated) == 0, "the most seats are refused");
+    for (size_t i = 0; i < RACK_MOST_NODES; i++) {
+        uint8_t *image = i < seated.bridges ? &bridges[RACK_NODE_BYTES * i] : &devices[RACK_NODE_BYTES * (i - seated.bridges)];
+        image[4] = 7; /* command */
+    }
+    expect(save(&seated, buffer, sizeof buffer, answer) == 0 && answer[0] == sizeof buffer, "the longest file has another length");
+    expect(save(&seated, buffer, sizeof buffer - 1, answer) == RACK_REFUSED_IMAGE_LENGTH, "the longest file is shorter");
+    memcpy(seated.bytes, buffer, sizeof buffer);
+    seated.count = sizeof buffer;
+    expect(open_file(&seated, answer) == 0 && answer[1] == RACK_MOST_BRIDGES && answer[2] == RACK_MOST_DEVICES, "the longest file is refused");
 }
 
 static void access_of_the_host(void)
@@ -258,6 +478,7 @@ static void limits(void)
     }
     expect(reset(&r) == 0, "the most nodes are refused");
     expect(r.bridges + r.devices == RACK_MOST_NODES, "the most nodes are another number");
+    longest_saved(&r);
     struct rack more = r;
     add_device(&more, RACK_MOST_BRIDGES - 1, 15);
     expect(reset(&more) == RACK_REFUSED_TOO_MANY, "a device too many is taken");
@@ -343,7 +564,7 @@ static void kinds_and_endings(void)
 {
     static const unsigned kinds[] = {RACK_KIND_HOST, RACK_KIND_BRIDGE, RACK_KIND_DEVICE, RACK_KIND_CONFIGURATION_WRITE,
         RACK_KIND_CONFIGURATION_READ, RACK_KIND_MEMORY, RACK_KIND_IO, RACK_KIND_CHECK, RACK_KIND_SEAT, RACK_KIND_SEAT_EVENT,
-        RACK_KIND_OLDER_BRIDGE};
+        RACK_KIND_REGISTERS, RACK_KIND_OLDER_BRIDGE};
     static const unsigned endings[] = {RACK_ENDED_DATA, RACK_ENDED_STORED, RACK_ENDED_OWNER, RACK_ENDED_HOST, RACK_ENDED_UNCLAIMED,
         RACK_ENDED_CLASH, RACK_ENDED_SILENT, RACK_ENDED_PASS, RACK_ENDED_FAULT, RACK_ENDED_DENIED, RACK_ENDED_SEAT, RACK_ENDED_SPECIAL};
     distinct(kinds, sizeof kinds / sizeof *kinds);
@@ -352,7 +573,7 @@ static void kinds_and_endings(void)
 
 static int is_refusal(unsigned number)
 {
-    return (number >= RACK_REFUSED_TOO_LONG && number <= RACK_REFUSED_SEAT) || number == RACK_REFUSED_ARBITER;
+    return (number >= RACK_REFUSED_TOO_LONG && number <= RACK_REFUSED_REGISTERS_VALUE) || number == RACK_REFUSED_ARBITER;
 }
 
 static void texts(void)
@@ -411,6 +632,13 @@ int main(void)
     denied_write();
     seat_events();
     seat_records();
+    saved_file();
+    refused_save();
+    one_form();
+    opened_file();
+    refused_registers();
+    refused_order();
+    registers_in_a_call();
     access_of_the_host();
     limits();
     image_length();

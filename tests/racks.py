@@ -1,13 +1,16 @@
-"""Random racks, their seats, configuration and accesses, as records of a rack file. Everything follows from the given generator's seed."""
+"""Random racks, their seats, registers, configuration and accesses, as records of a rack file. Everything follows from the given
+generator's seed."""
 import collections
 
 HOST = 255
 CHECK = b"\x08"
-WRITE, SEAT, SEAT_EVENT = 4, 9, 10
+WRITE, SEAT, SEAT_EVENT, REGISTERS = 4, 9, 10, 11
 BRIDGE, DEVICE, OLDER_BRIDGE = 2, 3, 13
 BRIDGES = (BRIDGE, OLDER_BRIDGE)
 NODES = (*BRIDGES, DEVICE)
-RECORD_BYTES = {1: 17, BRIDGE: 7, DEVICE: 13, WRITE: 9, 5: 4, 6: 11, 7: 7, 8: 1, SEAT: 5, SEAT_EVENT: 2, OLDER_BRIDGE: 7}
+RECORD_BYTES = {1: 17, BRIDGE: 7, DEVICE: 13, WRITE: 9, 5: 4, 6: 11, 7: 7, 8: 1, SEAT: 5, SEAT_EVENT: 2, REGISTERS: 66, OLDER_BRIDGE: 7}
+EVENTS = (WRITE, 5, 6, 7, 8, SEAT_EVENT)
+NODE_BYTES = 64  # of a node's registers
 SEATS = range(1, 16)  # those that need a record; seat 0 may write all
 DWORDS = 16  # of a node's registers, a bit of a mask each
 COMMAND, BUSES, IO_WINDOW, MEMORY, PREFETCHABLE = 0x04, 0x18, 0x1C, 0x20, 0x24
@@ -34,6 +37,10 @@ def seat_record(seat, node, mask):
 
 def seat_event(seat):
     return bytes([SEAT_EVENT, seat])
+
+
+def register_record(node, part):
+    return bytes([REGISTERS, node]) + bytes(part)
 
 
 def records_of(file):
@@ -76,6 +83,13 @@ class Node:
     def is_bridge(self):
         return self.kind in BRIDGES
 
+    @staticmethod
+    def of(record):
+        """The node of a record, or of a decoded rack's 13 bytes."""
+        node = Node(*record[:3], list(zip(record[7:13:2], record[8:13:2])))
+        node.ids = int.from_bytes(record[3:7], "little")
+        return node
+
     def record(self):
         head = bytes([self.kind, self.parent, self.device]) + number(self.ids, 4)
         return head if self.is_bridge else head + bytes(x for region in self.regions for x in region)
@@ -96,6 +110,12 @@ class Rack:
 
     def seat_records(self, behind):
         return [seat_record(g.seat, g.node, g.mask) for g in self.grants if g.behind == behind]
+
+    def saved(self):
+        """The same as the writer gives it: one form for a host without memory, seat records behind all nodes, by seat and then node."""
+        first, last = (self.first, self.last) if self.first <= self.last else (1, 0)
+        seats = [seat_record(g.seat, g.node, g.mask) for g in sorted(self.grants)]
+        return [b"\x01" + number(first, 8) + number(last, 8)] + [node.record() for node in self.nodes] + seats
 
     def seats(self):
         return sorted({g.seat for g in self.grants})
@@ -122,6 +142,68 @@ class Rack:
 
     def bridges(self):
         return [i for i, n in enumerate(self.nodes) if n.is_bridge]
+
+
+def spread(values):
+    """A node's 64 bytes from numbers at their offsets, written as {offset: (value, bytes)}."""
+    out = bytearray(NODE_BYTES)
+    for at, (value, count) in values.items():
+        out[at : at + count] = number(value, count)
+    return out
+
+
+def header(node):
+    """A node's changeable bits and its reset values, by document 01's 'Registers' and document 02's E11."""
+    both = {0x04: (0x0147, 2), 0x06: (0xF900, 2), 0x0C: (0xFFFF, 2), 0x3C: (0xFF, 1)}
+    ids = {0x00: (node.ids, 4)}
+    if node.is_bridge:
+        free = {0x18: (0xFFFFFFFF, 4), 0x1C: (0xF0F0, 2), 0x1E: (0xF900, 2), 0x20: (0xFFF0FFF0, 4), 0x24: (0xFFF0FFF0, 4)}
+        fixed = {0x09: (0x060400, 3), 0x0E: (1, 1)}
+        if node.kind == BRIDGE:
+            free.update({0x28: (~0, 4), 0x2C: (~0, 4), 0x30: (~0, 4), 0x3E: (0x3F, 2)})
+            fixed.update({0x1C: (0x0101, 2), 0x24: (0x00010001, 4)})
+        else:
+            free[0x3E] = (0x2F, 2)
+        return spread({**both, **free}), spread({**ids, **fixed})
+    free, fixed = {}, {0x0B: (0xFF, 1)}
+    for r, (kind, exponent) in enumerate(node.regions):
+        if kind in EXPONENTS:
+            free[0x10 + 8 * r] = (-(1 << exponent), 4)
+            fixed[0x10 + 8 * r] = ({1: 1, 2: 0, 3: 4}[kind], 4)
+        if kind == 3:
+            free[0x14 + 8 * r] = (~0, 4)
+    return spread({**both, **free}), spread({**ids, **fixed})
+
+
+class Registers:
+    """The registers of a rack's nodes, from reset."""
+
+    def __init__(self, rack):
+        self.rack = rack
+        self.free, self.reset = zip(*(header(n) for n in rack.nodes)) if rack.nodes else ((), ())
+        self.now = [bytearray(part) for part in self.reset]
+
+    def put(self, i, register, enables, data):
+        for k in range(4):
+            if enables >> k & 1:
+                at, free = register + k, self.free[i][register + k]
+                self.now[i][at] = self.now[i][at] & ~free & 255 | data >> 8 * k & free
+
+    def shuffle(self, rng, i):
+        for at in range(NODE_BYTES):
+            if rng.random() < 0.5:
+                self.put(i, at & ~3, 1 << (at & 3), rng.getrandbits(32))
+
+    def changed(self):
+        """The nodes that differ from reset."""
+        return [i for i, part in enumerate(self.now) if part != self.reset[i]]
+
+    def records(self):
+        return [register_record(i, self.now[i]) for i in self.changed()]
+
+    def images(self):
+        parts = [(n.is_bridge, bytes(part)) for n, part in zip(self.rack.nodes, self.now)]
+        return [bytearray(b"".join(part for is_b, part in parts if is_b == kind)) for kind in (True, False)]
 
 
 def random_regions(rng, large):
@@ -218,8 +300,11 @@ class Firmware:
             out += [(i, *setting) for setting in (self.of_bridge if node.is_bridge else self.of_device)(rng, i, odd)]
         return out
 
+    def write(self, i, register, enables, data):
+        return write(*self.target(i), register, enables, data)
+
     def writes(self, rng, odd):
-        return [write(*self.target(i), register, enables, data) for i, register, enables, data in self.settings(rng, odd)]
+        return [self.write(*setting) for setting in self.settings(rng, odd)]
 
     def of_device(self, rng, i, odd):
         out = []
@@ -266,6 +351,18 @@ class Firmware:
     def control(self, rng, odd):
         isa, vga, vga_16, master_abort = (rng.random() < odd for _ in range(4))
         return isa << 2 | (vga and rng.random() < 0.5) << 3 | vga_16 << 4 | (master_abort or rng.random() < 0.3) << 5
+
+
+def random_registers(rng, rack, firmware, odd):
+    """What firmware would have written, any bits, or reset."""
+    registers, way = Registers(rack), rng.random()
+    if way < 0.6:
+        for setting in firmware.settings(rng, odd):
+            registers.put(*setting)
+    elif way < 0.9:
+        for i in range(len(rack.nodes)):
+            registers.shuffle(rng, i)
+    return registers
 
 
 def interesting(rng, rack, firmware):

@@ -1,82 +1,29 @@
 """Random scripts of calls (CALLS.md): racks with the registers that firmware would write or any others, with seats, damaged racks, images,
-events."""
-import racks
-from racks import BRIDGE, CHECK, DEVICE, DWORDS, EXPONENTS, HOST, OLDER_BRIDGE, SEAT, SEAT_EVENT, SEATS
-from racks import Firmware, Grant, Node, access, configuration, number, random_rack, seat_event
+events, lent buffers and whole files."""
+import subprocess
+import sys
 
-DECODED = (1, 2, 3, 4, 5, 6, 7)
-ARCHIVE = (8, 9, 10, 11)
+import files
+import racks
+from racks import BRIDGE, CHECK, DEVICE, DWORDS, HOST, NODE_BYTES, OLDER_BRIDGE, REGISTERS, SEAT, SEAT_EVENT, SEATS
+from racks import Firmware, Grant, Node, access, configuration, number, random_rack, random_registers, register_record, seat_event
+
 STEP = 12  # of the arbiter, of both programs
+SAVING = (13, 14)  # operations that write a file into a lent buffer, over a decoded rack and over rack bytes
+OPENING = 15  # the registers that a run of a whole file starts from
+DECODED = (1, 2, 3, 4, 5, 6, 7, 13)
+ARCHIVE = (8, 9, 10, 11, 14, OPENING)
 NAMING = (1, 2, 3, 4, 5, 11)  # operations that name a node
 RUNNING = (6, 8)  # operations that run an event
+OFTEN = {6: 5, 8: 5, 11: 2, 13: 3, 14: 3, OPENING: 3}  # operations that can end in many ways are called more often than once
 NODES = 96
+HEAD = 18
+MOST_IMAGE, MOST_BUFFER = 4160, 16384
 SEATED = 0.45  # the share of racks that have seats
 
 
-def spread(values):
-    """64 bytes from numbers at their offsets, written as {offset: (value, bytes)}."""
-    out = bytearray(64)
-    for at, (value, count) in values.items():
-        out[at : at + count] = number(value, count)
-    return out
-
-
-def header(node):
-    """A node's changeable bits and its reset values, by document 01's 'Registers' and document 02's E11."""
-    both = {0x04: (0x0147, 2), 0x06: (0xF900, 2), 0x0C: (0xFFFF, 2), 0x3C: (0xFF, 1)}
-    ids = {0x00: (node.ids, 4)}
-    if node.is_bridge:
-        free = {0x18: (0xFFFFFFFF, 4), 0x1C: (0xF0F0, 2), 0x1E: (0xF900, 2), 0x20: (0xFFF0FFF0, 4), 0x24: (0xFFF0FFF0, 4)}
-        fixed = {0x09: (0x060400, 3), 0x0E: (1, 1)}
-        if node.kind == BRIDGE:
-            free.update({0x28: (~0, 4), 0x2C: (~0, 4), 0x30: (~0, 4), 0x3E: (0x3F, 2)})
-            fixed.update({0x1C: (0x0101, 2), 0x24: (0x00010001, 4)})
-        else:
-            free[0x3E] = (0x2F, 2)
-        return spread({**both, **free}), spread({**ids, **fixed})
-    free, fixed = {}, {0x0B: (0xFF, 1)}
-    for r, (kind, exponent) in enumerate(node.regions):
-        if kind in EXPONENTS:
-            free[0x10 + 8 * r] = (-(1 << exponent), 4)
-            fixed[0x10 + 8 * r] = ({1: 1, 2: 0, 3: 4}[kind], 4)
-        if kind == 3:
-            free[0x14 + 8 * r] = (~0, 4)
-    return spread({**both, **free}), spread({**ids, **fixed})
-
-
-class Registers:
-    """The images of a rack, from reset."""
-
-    def __init__(self, rack):
-        self.rack = rack
-        self.free, self.now = zip(*(header(n) for n in rack.nodes)) if rack.nodes else ((), ())
-
-    def put(self, i, register, enables, data):
-        for k in range(4):
-            if enables >> k & 1:
-                at, free = register + k, self.free[i][register + k]
-                self.now[i][at] = self.now[i][at] & ~free & 255 | data >> 8 * k & free
-
-    def shuffle(self, rng, i):
-        for at in range(64):
-            if rng.random() < 0.5:
-                self.put(i, at & ~3, 1 << (at & 3), rng.getrandbits(32))
-
-    def images(self):
-        parts = [(n.is_bridge, bytes(part)) for n, part in zip(self.rack.nodes, self.now)]
-        return [bytearray(b"".join(part for is_b, part in parts if is_b == kind)) for kind in (True, False)]
-
-
 def random_images(rng, rack, firmware):
-    registers = Registers(rack)
-    way = rng.random()
-    if way < 0.6:
-        for i, register, enables, data in firmware.settings(rng, rng.choice((0, 0.05, 0.3))):
-            registers.put(i, register, enables, data)
-    elif way < 0.9:
-        for i in range(len(rack.nodes)):
-            registers.shuffle(rng, i)
-    images = registers.images()
+    images = random_registers(rng, rack, firmware, rng.choice((0, 0.05, 0.3))).images()
     for image in images:
         if image and rng.random() < 0.06:  # a damaged bit: 12, or a changeable one
             image[rng.randrange(len(image))] ^= 1 << rng.randrange(8)
@@ -119,31 +66,42 @@ def damage_seats(rng, rack):
         rack.grants.append(Grant(*rng.choice(ways), rng.getrandbits(DWORDS), behind))
 
 
-def decoded_seats(rng, rack):
+def decoded_seats(rack, idle):
     """For each pair of seat and node whether it is named, and its mask, which may be anything where it is not."""
-    named = {(g.seat, g.node): g.mask for g in rack.grants}
-    idle = rng.choice((0, 0xFFFF))
-    pairs = ((seat, node) for seat in SEATS for node in range(NODES))
-    return b"".join(bytes([pair in named]) + number(named.get(pair, idle), 2) for pair in pairs)
+    out = bytearray((b"\x00" + number(idle, 2)) * (len(SEATS) * NODES))
+    for g in rack.grants:
+        if g.seat in SEATS and g.node < NODES:
+            at = 3 * (NODES * SEATS.index(g.seat) + g.node)
+            out[at : at + 3] = b"\x01" + number(g.mask, 2)
+    return out
+
+
+def decoded_rack(rack, count, past=Node(DEVICE, HOST, 0).record(), idle=0):
+    """A decoded rack with that count of nodes; what stands past its nodes and in masks of pairs that are not named may be anything."""
+    rows = [bytes([n.kind, n.parent, n.device]) + number(n.ids, 4) + bytes(x for r in n.regions for x in r) for n in rack.nodes]
+    rows += [past] * (NODES - len(rows))
+    return number(rack.first, 8) + number(rack.last, 8) + bytes([count]) + b"".join(rows[:NODES]) + decoded_seats(rack, idle)
 
 
 def decoded(rng, rack):
-    rows = [bytes([n.kind, n.parent, n.device]) + number(n.ids, 4) + bytes(x for r in n.regions for x in r) for n in rack.nodes]
-    rows += [Node(DEVICE, HOST, 0).record()] * (NODES - len(rows))
     count = len(rack.nodes) if rng.random() < 0.97 else rng.choice((0, 96, 97, 255, len(rack.nodes) + 1))
-    return number(rack.first, 8) + number(rack.last, 8) + bytes([min(count, 255)]) + b"".join(rows[:NODES]) + decoded_seats(rng, rack)
+    return decoded_rack(rack, min(count, 255), idle=rng.choice((0, 0xFFFF)))
 
 
 def rack_bytes(rng, rack):
     records = rack.records()
     way = rng.random()
-    if way < 0.04:
-        records.insert(rng.randint(0, len(records)), rng.choice((CHECK, seat_event(0), b"\x01" + bytes(16), bytes([rng.randint(0, 255)]))))
+    if way < 0.06:
+        kept = register_record(rng.randrange(4), rng.randbytes(NODE_BYTES))
+        faults = (CHECK, seat_event(0), b"\x01" + bytes(16), bytes([rng.randint(0, 255)]), kept, kept)
+        records.insert(rng.randint(0, len(records)), rng.choice(faults))
     file = b"".join(records)
-    if 0.04 <= way < 0.07:
+    if 0.06 <= way < 0.09:
         file = file[: rng.randint(0, len(file))]
-    elif 0.07 <= way < 0.08:
+    elif 0.09 <= way < 0.10:
         file += bytes(65537 - len(file))
+    elif 0.10 <= way < 0.11:
+        file += register_record(0, rng.randbytes(NODE_BYTES))[: rng.randint(1, 65)]
     return file
 
 
@@ -168,32 +126,81 @@ def random_event(rng, rack, firmware):
 
 def any_bytes(rng, event):
     """An event as C may hand it over: cut short, too long, of no kind."""
-    kind = rng.choice((0, 1, 3, SEAT, SEAT_EVENT, OLDER_BRIDGE, 255))
+    kind = rng.choice((0, 1, 3, SEAT, SEAT_EVENT, REGISTERS, OLDER_BRIDGE, 255))
     return rng.choice((event[: rng.randint(0, len(event))], event + b"\x00", bytes([kind]) + event[1:]))
+
+
+def parts_of(call):
+    """The bytes of a call's rack, its event and both images."""
+    at, out = HEAD, []
+    for offset, count in ((1, 4), (5, 2), (7, 2), (9, 2)):
+        length = int.from_bytes(call[offset : offset + count], "little")
+        out.append(call[at : at + length])
+        at += length
+    return out
 
 
 def event_of(call):
     """The bytes of a call's event."""
-    at = 18 + int.from_bytes(call[1:5], "little")
-    return call[at : at + int.from_bytes(call[5:7], "little")]
+    return parts_of(call)[1]
 
 
 def rack_of(call):
     """The bytes of a call's rack."""
-    return call[18 : 18 + int.from_bytes(call[1:5], "little")]
+    return parts_of(call)[0]
+
+
+def buffer_of(call):
+    """The length of the buffer that a call lends."""
+    return int.from_bytes(call[14:18], "little")
+
+
+def nodes_of(call):
+    """The nodes of a call's rack, as far as it can be read."""
+    rack = rack_of(call)
+    if call[0] in DECODED:
+        return [Node.of(rack[at : at + 13]) for at in range(17, 17 + 13 * min(rack[16], NODES), 13)]
+    return [Node.of(record) for _, record in racks.records_of(rack) if record[0] in racks.NODES and len(record) >= 7]
 
 
 def node_kinds(call):
     """The kinds of the nodes of a call's rack, as far as it can be read."""
+    return [node.kind for node in nodes_of(call)]
+
+
+def fits(call):
+    """Whether both images have the lengths that the nodes of the call's rack ask for."""
+    is_bridge = [node.is_bridge for node in nodes_of(call)]
+    return [len(image) for image in parts_of(call)[2:]] == [NODE_BYTES * is_bridge.count(kind) for kind in (True, False)]
+
+
+def grants_in(call):
+    """How many grants a call's rack has, as far as it can be read."""
     rack = rack_of(call)
     if call[0] in DECODED:
-        return list(rack[17 : 17 + 13 * NODES : 13][: rack[16]])
-    return [record[0] for _, record in racks.records_of(rack) if record[0] in racks.NODES]
+        return sum(rack[17 + 13 * NODES :: 3])
+    return sum(record[0] == SEAT for _, record in racks.records_of(rack))
 
 
-def has_seats(call):
-    """Whether a call's rack bytes have a seat record, as far as they can be read."""
-    return any(record[0] == SEAT for _, record in racks.records_of(rack_of(call)))
+def saved_length(call):
+    """The length of the file of a call's rack, if it is not refused."""
+    images, at = parts_of(call)[2:], [0, 0]  # and where the next part of each begins
+    length = racks.RECORD_BYTES[1] + racks.RECORD_BYTES[SEAT] * grants_in(call)
+    for node in nodes_of(call):
+        k = 0 if node.is_bridge else 1
+        part, at[k] = images[k][at[k] : at[k] + NODE_BYTES], at[k] + NODE_BYTES
+        length += racks.RECORD_BYTES[node.kind] + (racks.RECORD_BYTES[REGISTERS] if part != racks.header(node)[1] else 0)
+    return length
+
+
+def has(call, kinds):
+    """Whether a call's rack bytes have a record of these kinds, as far as they can be read."""
+    return any(record[0] in kinds for _, record in racks.records_of(rack_of(call)))
+
+
+def first_strange(call):
+    """The kind of the first record of a call's rack bytes that is none of a rack; none where there is none or it has no kind."""
+    return next((record[0] for _, record in racks.records_of(rack_of(call)) if record[0] not in (1, SEAT, *racks.NODES)), None)
 
 
 def named_kind(call):
@@ -218,9 +225,42 @@ def random_step(rng):
     return mask, requests, high, low
 
 
+def assembled(operation, named, data, *parts):
+    """A call: node, index and enables are `named`; rack, event and both images are `parts`."""
+    counts = b"".join(number(len(part), count) for part, count in zip(parts, (4, 2, 2, 2)))
+    return bytes([operation]) + counts + bytes(named) + number(data, 4) + b"".join(map(bytes, parts))
+
+
+def lent(rng, call):
+    """The call with a buffer for its file: none, one that is too short, by a byte too, just long enough or longer; filled with any byte."""
+    length = min(saved_length(call), MOST_BUFFER)
+    longer = rng.choice((length + 1, rng.randint(length, MOST_BUFFER), MOST_BUFFER))
+    count = rng.choice((0, rng.randint(0, length), length - 1, length, length, length, longer, longer, longer))
+    return call[:13] + bytes([rng.getrandbits(8)]) + number(count, 4) + call[HEAD:]
+
+
+def random_opening(rng):
+    """A whole file, with or without its events, seldom too long, and images of the lengths that it asks for, seldom of others; what they
+    hold plays no part."""
+    records = files.random_file(rng, rng.choice((files.WHOLE, files.BROKEN, files.BROKEN)))
+    if rng.random() < 0.3:
+        records = [record for record in records if record[:1] not in [bytes([kind]) for kind in racks.EVENTS]]
+    file = b"".join(records)
+    if rng.random() < 0.02:
+        file += CHECK * (files.MOST + 1 - len(file))
+    is_bridge = [record[0] in racks.BRIDGES for _, record in racks.records_of(file) if record[0] in racks.NODES]
+    images = [rng.randbytes(min(NODE_BYTES * is_bridge.count(kind), MOST_IMAGE)) for kind in (True, False)]
+    for k in range(2):
+        if rng.random() < 0.08:
+            images[k] = rng.choice((images[k][:-1], b"", images[k][NODE_BYTES:], rng.randbytes(min(len(images[k]) + 64, MOST_IMAGE))))
+    return assembled(OPENING, (0, 0, 0), 0, file, b"", *images)
+
+
 def random_call(rng, operations, steps=0.05):
-    """A call of one of the operations, runs of an event, which can end in so many ways, more often, or a step of the arbiter, which is
-    rarer."""
+    """A call of one of the operations, or a step of the arbiter, which is rarer."""
+    operation = STEP if rng.random() < steps else rng.choices(operations, [OFTEN.get(operation, 1) for operation in operations])[0]
+    if operation == OPENING:
+        return random_opening(rng)
     size = rng.choices(((0, 0), (1, 2), (3, 6), (8, 20), (32, 64)), (2, 10, 20, 4, 2))[0]
     rack = random_rack(rng, size[0], size[1], rng.choice(("any", "chain", "wide")))
     firmware = Firmware(rack)
@@ -230,10 +270,8 @@ def random_call(rng, operations, steps=0.05):
     event, seat = random_event(rng, rack, firmware), random_seat(rng, rack)
     if rng.random() < 0.25:
         damage(rng, rack)
-    if rng.random() < 0.12:
+    if rng.random() < 0.15:
         damage_seats(rng, rack)
-    weights = [3 if operation in RUNNING else 1 for operation in operations]
-    operation = STEP if rng.random() < steps else rng.choices(operations, weights)[0]
     if ARCHIVE[0] in operations:
         rack_part = rack_bytes(rng, rack)
         event = any_bytes(rng, event) if rng.random() < 0.1 else event
@@ -244,10 +282,30 @@ def random_call(rng, operations, steps=0.05):
         node = seat
     most = 3 if operation in (4, 5, 11) else 255
     index = rng.choice((rng.randint(0, most), 4 * rng.randint(0, 16) % (most + 1)))
-    head = bytes([operation]) + number(len(rack_part), 4) + number(len(event), 2) + number(len(bridges), 2) + number(len(devices), 2)
     data = rng.getrandbits(32)
     if operation == STEP:
         mask, requests, node, index = random_step(rng)
         data = mask | requests << 16
-    head += bytes([node, index, rng.randint(0, 15) if rng.random() < 0.95 else rng.randint(0, 255)]) + number(data, 4)
-    return head + rack_part + event + bytes(bridges) + bytes(devices)
+    enables = rng.randint(0, 15) if rng.random() < 0.95 else rng.randint(0, 255)
+    call = assembled(operation, (node, index, enables), data, rack_part, event, bridges, devices)
+    return lent(rng, call) if operation in SAVING else call
+
+
+def results(program, script):
+    """What each call of a script gives by a program, as rows of bytes."""
+    run = subprocess.run([program], input=b"".join(script), stdout=subprocess.PIPE)
+    out, at = [], 0
+    for call in script:
+        shown = int.from_bytes(run.stdout[at + 65 : at + 67], "little")
+        length = 67 + shown + int.from_bytes(call[7:9], "little") + int.from_bytes(call[9:11], "little")
+        out.append(run.stdout[at : at + length])
+        at += length
+    if run.returncode != 0 or at != len(run.stdout):
+        print(f"{program}: status {run.returncode}, {len(run.stdout)} bytes instead of {at}")
+        sys.exit(1)
+    return out
+
+
+def numbers_of(result):
+    """The eight numbers of a call's result."""
+    return [int.from_bytes(result[1 + 8 * k : 9 + 8 * k], "little") for k in range(8)]

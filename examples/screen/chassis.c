@@ -1,8 +1,6 @@
 #include "chassis.h"
 
-#include "show.h"
-
-#include <stdio.h>
+#include <string.h>
 
 /* The bytes of a rack record of this kind, its kind's byte too; 0 where it is none. */
 static size_t record_bytes(uint8_t kind)
@@ -17,34 +15,21 @@ static size_t record_bytes(uint8_t kind)
     }
 }
 
-static bool is_event(uint8_t kind)
-{
-    return (kind >= RACK_KIND_CONFIGURATION_WRITE && kind <= RACK_KIND_CHECK) || kind == RACK_KIND_SEAT_EVENT;
-}
-
-/* A record that has no room here is one that the calls will refuse. */
 static void take_record(struct chassis *c, const uint8_t *record)
 {
-    uint8_t kind = record[0];
-    if (kind == RACK_KIND_SEAT) {
-        if (record[AT_SEAT] <= RACK_MOST_SEATS && record[AT_NODE] < RACK_MOST_NODES) {
-            c->grant[record[AT_SEAT]][record[AT_NODE]] = record;
-        }
-    } else if (kind != RACK_KIND_HOST && c->nodes < RACK_MOST_NODES) {
+    if (record[0] == RACK_KIND_SEAT) {
+        c->grant[record[AT_SEAT]][record[AT_NODE]] = record;
+    } else if (record[0] != RACK_KIND_HOST) {
         c->node[c->nodes++] = record;
     }
 }
 
-/* The rack records at the start of the file: up to an event, or to a record that the calls will refuse. */
-static void find_records(struct chassis *c, size_t length)
+/* The nodes and seats of an accepted rack, so that each of them has room. */
+static void find_records(struct chassis *c)
 {
-    size_t at = 0, count;
-    while (at < length && (count = record_bytes(c->rack[at])) > 0 && at + count <= length) {
+    for (size_t at = 0; at < c->count; at += record_bytes(c->rack[at])) {
         take_record(c, &c->rack[at]);
-        at += count;
     }
-    bool is_taken_apart = length <= RACK_MOST_BYTES && at < length && is_event(c->rack[at]);
-    c->count = is_taken_apart ? at : length;
 }
 
 bool is_bridge(const struct chassis *c, unsigned node)
@@ -91,41 +76,19 @@ uint8_t reset(struct chassis *c)
     return rack_reset(c->rack, c->count, c->bridges, c->bridge_bytes, c->devices, c->device_bytes);
 }
 
-static bool read_file(struct chassis *c, const char *path, size_t *length)
+uint8_t load(struct chassis *c, const uint8_t *file, size_t count)
 {
-    FILE *file = fopen(path, "rb");
-    if (file == NULL) {
-        perror(path);
-        return false;
+    uint64_t answer[RACK_ANSWER_NUMBERS];
+    uint8_t refusal = rack_open(file, count, c->bridges, 0, c->devices, 0, answer); /* how long are the images? */
+    if (refusal != 0 && refusal != RACK_REFUSED_IMAGE_LENGTH) {
+        return refusal;
     }
-    *length = fread(c->rack, 1, sizeof c->rack, file);
-    bool is_read = !ferror(file);
-    if (!is_read) {
-        perror(path);
-    }
-    fclose(file);
-    return is_read;
-}
-
-bool load(struct chassis *c, const char *path)
-{
-    size_t length, bridges = 0;
-    if (!read_file(c, path, &length)) {
-        return false;
-    }
-    find_records(c, length);
-    for (unsigned i = 0; i < c->nodes; i++) {
-        bridges += is_bridge(c, i);
-    }
-    if (bridges > RACK_MOST_BRIDGES || c->nodes - bridges > RACK_MOST_DEVICES) {
-        show_refusal(RACK_REFUSED_TOO_MANY); /* more than the images here have room for */
-        return false;
-    }
-    c->bridge_bytes = RACK_NODE_BYTES * bridges;
-    c->device_bytes = RACK_NODE_BYTES * (c->nodes - bridges);
-    uint8_t refusal = reset(c);
-    if (refusal != 0) {
-        show_refusal(refusal);
-    }
-    return refusal == 0;
+    memset(c, 0, sizeof *c);
+    c->bridge_bytes = RACK_NODE_BYTES * (size_t)answer[1];
+    c->device_bytes = RACK_NODE_BYTES * (size_t)answer[2];
+    refusal = rack_open(file, count, c->bridges, c->bridge_bytes, c->devices, c->device_bytes, answer);
+    c->count = (size_t)answer[0];
+    memcpy(c->rack, file, c->count);
+    find_records(c);
+    return refusal;
 }

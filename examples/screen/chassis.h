@@ -7,8 +7,8 @@
 #include <stdbool.h>
 
 struct chassis {
-    uint8_t rack[RACK_MOST_BYTES + 1]; /* one byte more, so that a file that is too long is seen */
-    size_t count;                      /* bytes of rack records */
+    uint8_t rack[RACK_MOST_BYTES];
+    size_t count; /* bytes of host, nodes and seats, which the calls take as the rack */
     const uint8_t *node[RACK_MOST_NODES];
     unsigned nodes;
     const uint8_t *grant[1 + RACK_MOST_SEATS][RACK_MOST_NODES]; /* a seat's record for a node, or null */
@@ -23,8 +23,9 @@ enum { AT_PARENT = 1, AT_DEVICE = 2, AT_VENDOR_ID = 3, AT_DEVICE_ID = 5 };
 /* And those of a seat record. */
 enum { AT_SEAT = 1, AT_NODE = 2, AT_MASK = 3 };
 
-/* The rack records of a file, with registers at reset; false where that cannot be, which is said. */
-bool load(struct chassis *c, const char *path);
+/* The rack of a file with the registers that it begins with, and seat 0 to act. Its events may be refused too, and are left to the class.
+ * A refusal leaves the rack that was there before. */
+uint8_t load(struct chassis *c, const uint8_t *file, size_t count);
 
 uint8_t reset(struct chassis *c);
 

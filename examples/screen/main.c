@@ -1,11 +1,12 @@
 /* A small classroom screen: the tree of a rack with both ends of every window and region, register writes and accesses from the
- * keyboard, where each access went, and which seat may write what; beside it a lesson on sharing a bus. It links libmuzgante.a and
- * decodes no register itself.
+ * keyboard, where each access went, and which seat may write what; the rack saved, and another opened; beside it a lesson on sharing a
+ * bus. It links libmuzgante.a and decodes no register itself.
  *
- *     screen RACK        a rack file; the screen takes its rack records and leaves its events to the class
+ *     screen RACK        a rack file; the screen takes its rack records, registers too, and leaves its events to the class
  */
 #include "arbiter.h"
 #include "chassis.h"
+#include "saved.h"
 #include "seat.h"
 #include "show.h"
 #include "words.h"
@@ -205,6 +206,10 @@ static void obey_reset(struct chassis *c, const char *const word[])
     reset(c);
 }
 
+static void obey_save(struct chassis *c, const char *const word[]) { save_rack(c, word[0]); }
+
+static void obey_open(struct chassis *c, const char *const word[]) { open_rack(c, word[0]); }
+
 static void obey_help(struct chassis *c, const char *const word[]);
 
 static const struct command commands[] = {
@@ -219,6 +224,8 @@ static const struct command commands[] = {
     {"seat", "", "who acts, and what that seat may write", 0, obey_seat},
     {"seat", "NUMBER", "who acts from now on, by its decimal number; seat 0 may write every register", 1, obey_seat_number},
     {"reset", "", "every register back to its reset value", 0, obey_reset},
+    {"save", "NAME", "the rack with its registers as they are now, as a file of this name", 1, obey_save},
+    {"open", "NAME", "another rack file in place of this rack, with its registers", 1, obey_open},
     {"arbiter", "HIGH", "ten members share a bus: those of the high group, as 025 or none", 1, obey_arbiter},
     {"request", "MEMBERS", "who requests it now, the same: who is granted, and how the rings stand", 1, obey_request},
     {"help", "", "these lines", 0, obey_help},
@@ -299,7 +306,7 @@ int main(int argc, char **argv)
         fprintf(stderr, "usage: screen RACK\n");
         return 2;
     }
-    if (!load(&c, argv[1])) {
+    if (!begin_with(&c, argv[1])) {
         return 1;
     }
     show_tree(&c);

@@ -51,13 +51,19 @@ bool read_words(struct words *w)
     return true;
 }
 
-void show_wrong(const char *word, const char *what, const char *expected)
+void show_word(const char *word)
 {
     putchar('\'');
     for (; *word != '\0'; word++) {
         putchar(isprint((unsigned char)*word) ? *word : '?'); /* nothing that moves the terminal's cursor */
     }
-    printf("' is no %s: expected %s\n", what, expected);
+    putchar('\'');
+}
+
+void show_wrong(const char *word, const char *what, const char *expected)
+{
+    show_word(word);
+    printf(" is no %s: expected %s\n", what, expected);
 }
 
 /* The value of a digit, or `base` where it is none. */

@@ -16,6 +16,9 @@ struct words {
 /* The next line and its words; false where the input ends. A line that is too long is said, and has no words. */
 bool read_words(struct words *w);
 
+/* A word in quotes. */
+void show_word(const char *word);
+
 /* What a word is not, and what was expected instead. */
 void show_wrong(const char *word, const char *what, const char *expected);
 

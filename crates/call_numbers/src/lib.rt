@@ -4,10 +4,12 @@ ghost use mathlib.Core.List.{[], _∷_};
 ghost use Rattle.route_bus.specs.definitions.End.{outcomeNumber};
 ghost use Rattle.event_run.specs.definitions.Answers.{endingNumber, endingValues};
 ghost use Rattle.check_search.specs.definitions.Report.{reportNumber, reportValues};
-ghost use Rattle.call_numbers.specs.definitions.Numbers.{eight, zeros, numbersOf, codeOf, replyNumbers, endsCode, endsNumbers, arbitrationNumbers};
+ghost use Rattle.call_table.specs.definitions.Call.{numberCode};
+ghost use Rattle.call_numbers.specs.definitions.Numbers.{eight, zeros, numbersOf, codeOf, replyNumbers, valueNumbers, endsCode, endsNumbers, arbitrationNumbers};
 ghost use Rattle.arbiter.specs.definitions.Arbiter.{refusalOf};
 ghost use Rattle.claim_agent.specs.definitions.Space.{spaceNumber};
 use arbiter::Arbitration;
+use call_table::Number;
 use call_table::RangeReply;
 use call_table::Reply;
 use check_search::Report;
@@ -140,6 +142,26 @@ pub fn put_reply(answer: &mut [u64; 8], r: Reply) -> u8
             0
         }
     }
+}
+
+// A number alone; 0, or the refusal's number.
+pub fn put_value(answer: &mut [u64; 8], n: Number) -> u8
+    ensures { λ r. ⌜ (r ≡ numberCode n) × (now (answer .exit) ≡ valueNumbers n) ⌝ }
+{
+    match n {
+        Number::Refused(refusal) => refuse(answer, refusal),
+        Number::Value(value) => {
+            put_eight(answer, value, 0, 0, 0, 0, 0, 0);
+            0
+        }
+    }
+}
+
+// Three numbers.
+pub fn put_three(answer: &mut [u64; 8], a: u64, b: u64, c: u64)
+    ensures { λ _. ⌜ now (answer .exit) ≡ eight a (b ∷ c ∷ []) ⌝ }
+{
+    put_eight(answer, a, b, c, 0, 0, 0, 0);
 }
 
 // Both ends of a window or region, none where it is empty; 0, or the refusal's number.

@@ -5,25 +5,15 @@ use arbiter::arbitrate;
 use call_numbers::put_arbitration;
 use call_numbers::put_ends;
 use call_numbers::put_reply;
+use call_numbers::put_value;
 use call_open::read_register;
 use call_open::run_check;
 use call_open::run_event;
 use call_open::size_region;
 use call_open::window_ends;
 use call_open::write_register;
-use call_table::Number;
 use file_record::events::event_in;
 use rack::Rack;
-
-fn put_number(answer: &mut [u64; 8], n: Number) -> u8 {
-    match n {
-        Number::Refused(refusal) => refusal,
-        Number::Value(value) => {
-            answer[0] = value;
-            0
-        }
-    }
-}
 
 // Operation 12: the mask is the lower half of the data, the request set the upper.
 fn step_made(a: Asked, answer: &mut [u64; 8]) -> u8 {
@@ -46,7 +36,7 @@ pub fn make(
     answer: &mut [u64; 8],
 ) -> u8 {
     if a.operation == 1 {
-        return put_number(
+        return put_value(
             answer,
             read_register(rack, bridges, devices, a.node, a.index),
         );
@@ -55,7 +45,7 @@ pub fn make(
         return write_register(rack, bridges, devices, a.node, a.index, a.enables, a.put);
     }
     if a.operation == 4 {
-        return put_number(answer, size_region(rack, bridges, devices, a.node, a.index));
+        return put_value(answer, size_region(rack, bridges, devices, a.node, a.index));
     }
     if a.operation == 5 {
         return put_ends(answer, window_ends(rack, bridges, devices, a.node, a.index));

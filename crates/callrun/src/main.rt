@@ -1,4 +1,4 @@
-// callrun: makes the calls over a decoded rack that a script asks for (tests/CALLS.md, operations 1 to 7 and 12) and writes what each gives.
+// callrun: makes the calls over a decoded rack that a script asks for (tests/CALLS.md, operations 1 to 7, 12 and 13) and writes what each gives.
 
 mod asked;
 mod made;

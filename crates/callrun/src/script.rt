@@ -5,7 +5,9 @@ use crate::asked::Asked;
 use crate::asked::asked_in;
 use crate::asked::rack_in;
 use crate::made::make;
+use call_numbers::put_value;
 use call_open::view;
+use call_save::save_rack;
 use libc::STDIN_FILENO;
 use libc::STDOUT_FILENO;
 use rack::Rack;
@@ -50,18 +52,18 @@ fn write_qword(x: u64) -> bool {
     io::write_all(STDOUT_FILENO, &[a, b, c, d, e, f, g, h])
 }
 
-// The code, the eight numbers, and the length of the part that a view shows.
-fn write_numbers(code: u8, answer: [u64; 8], shown: u8) -> bool {
+// The code, the eight numbers, and the length of the part that is shown.
+fn write_numbers(code: u8, answer: [u64; 8], shown: u16) -> bool {
     let mut is_written = io::write_all(STDOUT_FILENO, &[code]);
     let mut i: usize = 0;
     while i < 8 {
         is_written = write_qword(answer[i]) & is_written;
         i += 1;
     }
-    is_written & io::write_all(STDOUT_FILENO, &[shown, 0])
+    is_written & io::write_all(STDOUT_FILENO, &[(shown % 256) as u8, (shown / 256) as u8])
 }
 
-// The part of a view, or none, and both images.
+// The part that is shown, or none, and both images.
 fn write_rest(part: &[u8], bridges: &[u8], devices: &[u8]) -> bool {
     let shown = io::write_all(STDOUT_FILENO, part);
     let first = io::write_all(STDOUT_FILENO, bridges);
@@ -75,9 +77,52 @@ fn answer_view<'a>(a: Asked, rack: Rack, bridges: &'a [u8], devices: &'a [u8]) -
     write_numbers(0, [0; 8], shown) && write_rest(part, bridges, devices)
 }
 
+// Room for any buffer of a script.
+fn buffer() -> [u8; 16384]
+    ensures { λ r. ⌜ 16384 ≡ length r ⌝ }
+{
+    [0; 16384]
+}
+
+fn fill_with(buf: &mut [u8], byte: u8) {
+    let mut i: usize = 0;
+    while i < buf.len() {
+        buf[i] = byte;
+        i += 1;
+    }
+}
+
+// The enables are what fills the buffer before.
+fn answer_into<'a>(
+    a: Asked,
+    rack: Rack,
+    out: &mut [u8],
+    bridges: &'a [u8],
+    devices: &'a [u8],
+) -> bool {
+    fill_with(out, a.enables);
+    let mut answer = [0u64; 8];
+    let code = put_value(&mut answer, save_rack(rack, bridges, devices, out));
+    write_numbers(code, answer, (a.put % 65536) as u16) && write_rest(out, bridges, devices)
+}
+
+// Operation 13: the data is the buffer's length.
+fn answer_save<'a>(a: Asked, rack: Rack, bridges: &'a [u8], devices: &'a [u8]) -> bool {
+    let mut space = buffer();
+    let all: &mut [u8] = &mut space;
+    let n = a.put as usize;
+    if all.len() < n {
+        return false;
+    }
+    answer_into(a, rack, &mut all[..n], bridges, devices)
+}
+
 fn answer_call(a: Asked, rack: Rack, event: &[u8], bridges: &mut [u8], devices: &mut [u8]) -> bool {
     if a.operation == 3 {
         return answer_view(a, rack, bridges, devices);
+    }
+    if a.operation == 13 {
+        return answer_save(a, rack, bridges, devices);
     }
     let mut answer = [0u64; 8];
     let code = make(a, rack, event, bridges, devices, &mut answer);

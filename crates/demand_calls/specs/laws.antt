@@ -14,3 +14,4 @@ pub mod CSpecial
 pub mod CLater
 pub mod Seats
 pub mod CSeats
+pub mod Saving

@@ -11,7 +11,7 @@ ghost use Rattle.seat.specs.definitions.Grants.{seated};
 ghost use Rattle.seat.specs.definitions.Table.{grantsOf};
 ghost use Rattle.file_record.specs.definitions.Number.{byteIn};
 ghost use Rattle.file_record.specs.definitions.Record.{sizeOf, classIn, isA, nodeIn, seatIn};
-ghost use Rattle.file_record.specs.definitions.Load.{hostWrong, followsEvent, shapeFault, nodeFault, seatFault, eventFault, recordFault, taken, atStart, readFrom, readIn, fileIn, rackAlone};
+ghost use Rattle.file_record.specs.definitions.Load.{hostWrong, followsLater, shapeFault, nodeFault, seatFault, eventFault, misplaced, unsound, registerFault, recordFault, taken, atStart, readFrom, readIn, fileIn, rackAlone};
 ghost use Rattle.file_record.specs.definitions.Loads.{readingOf, Steps, Loads};
 use file_record::Class;
 use file_record::Loaded;
@@ -26,15 +26,20 @@ use file_record::record::is_a;
 use file_record::record::is_rack;
 use file_record::record::no_kind;
 use file_record::record::node_in;
+use file_record::record::registers_in;
 use file_record::record::seat_in;
 use file_record::record::size_of;
+use rack::Node;
 use rack::Range;
 use rack::grow::add_node;
 use rack::grow::no_table;
 use rack::table::Table;
 use rack::table::count_of;
+use rack::table::node_at;
 use rack_refusals::node_refusal;
 use register_header::register::byte_at;
+use register_image::fixed::part_wrong;
+use register_image::reset::is_changed;
 use seat::grow::add_grant;
 use seat::grow::no_grants;
 use seat::grow::note_wrong;
@@ -49,18 +54,19 @@ fn host_wrong(c: Class, o: usize) -> bool
     if o == 0 { !host } else { host }
 }
 
-// Refusal 5: a rack record follows an event.
-fn follows_event(c: Class, events: usize) -> bool
-    ensures { λ r. ⌜ r ≡ followsEvent c events ⌝ }
+// Refusal 5: a record of the rack itself follows a register record or an event, or a register record an event.
+fn follows_later(c: Class, registers: usize, events: usize) -> bool
+    ensures { λ r. ⌜ r ≡ followsLater c registers events ⌝ }
 {
     let rack = is_rack(c);
-    rack & !(events == 0)
+    let holds = is_a(Class::Registers, c);
+    (rack & !((registers == 0) & (events == 0))) | (holds & !(events == 0))
 }
 
-// Refusals 2 to 5, of a record's kind, length and place; `whole` says whether this is a whole file, with events.
-fn shape_fault(file: &[u8], whole: bool, c: Class, o: usize, events: usize) -> u8
+// Refusals 2 to 5, of a record's kind, length and place; `whole` says whether this is a whole file, with registers and events.
+fn shape_fault(file: &[u8], whole: bool, c: Class, o: usize, registers: usize, events: usize) -> u8
     requires { ⌜ o ≤ 65536 ⌝ }
-    ensures { λ r. ⌜ r ≡ shapeFault whole (now (file .entry)) c o events ⌝ }
+    ensures { λ r. ⌜ r ≡ shapeFault whole (now (file .entry)) c o registers events ⌝ }
 {
     if no_kind(whole, c) {
         return 2;
@@ -71,7 +77,7 @@ fn shape_fault(file: &[u8], whole: bool, c: Class, o: usize, events: usize) -> u
     if host_wrong(c, o) {
         return 4;
     }
-    if follows_event(c, events) {
+    if follows_later(c, registers, events) {
         return 5;
     }
     0
@@ -106,7 +112,9 @@ fn stopped(refusal: u8) -> Walk
     Walk {
         refusal,
         offset: 0,
+        registers: 0,
         events: 0,
+        least: 0,
     }
 }
 
@@ -122,7 +130,9 @@ fn past_node(file: &[u8], table: &mut Table, grants: &GrantTable, w: Walk) -> Wa
     Walk {
         refusal: 0,
         offset,
+        registers: w.registers,
         events: w.events,
+        least: w.least,
     }
 }
 
@@ -156,15 +166,17 @@ fn past_seat(file: &[u8], whole: bool, table: &Table, grants: &mut GrantTable, w
     Walk {
         refusal: 0,
         offset,
+        registers: w.registers,
         events: w.events,
+        least: w.least,
     }
 }
 
-// Where the events begin, once there is one at o.
-fn begin(events: usize, o: usize) -> usize
-    ensures { λ r. ⌜ r ≡ events or o ⌝ }
+// Where records of a class begin, once there is one at o.
+fn begin(first: usize, o: usize) -> usize
+    ensures { λ r. ⌜ r ≡ first or o ⌝ }
 {
-    if events == 0 { o } else { events }
+    if first == 0 { o } else { first }
 }
 
 fn past_event(file: &[u8], table: &Table, grants: &GrantTable, w: Walk) -> Walk
@@ -181,7 +193,49 @@ fn past_event(file: &[u8], table: &Table, grants: &GrantTable, w: Walk) -> Walk
     Walk {
         refusal: 0,
         offset: past(file, w.offset),
+        registers: w.registers,
         events: begin(w.events, w.offset),
+        least: w.least,
+    }
+}
+
+// 16 of a register record: its node is missing, or not above the one before.
+fn misplaced(file: &[u8], o: usize, table: &Table, least: usize) -> bool
+    requires { ⌜ o ≤ 65536 ⌝ }
+    ensures { λ r. ⌜ r ≡ misplaced (now (file .entry)) o (treeOf (now (table .entry))) least ⌝ }
+{
+    let node = byte_at(file, o + 1);
+    let count = count_of(table);
+    (count <= node) | ((node as usize) < least)
+}
+
+// 17 of a register record: its bytes are those at reset, or change a fixed bit.
+fn unsound(n: Node, part: &[u8]) -> bool
+    ensures { λ r. ⌜ r ≡ unsound n (now (part .entry)) ⌝ }
+{
+    let changed = is_changed(n, part);
+    let wrong = part_wrong(n, part);
+    !changed | wrong
+}
+
+fn past_registers(file: &[u8], table: &Table, grants: &GrantTable, w: Walk) -> Walk
+    requires { ⌜ (w .offset ≤ 65536) × (w .offset + 66 ≤ length (now file)) × (isA Class.Registers (classIn (now file) (w .offset)) ≡ true) × (rackRefusal (treeOf (now table)) ≡ 0) ⌝ }
+    ensures { λ r. ⌜ Steps r (now (table .entry)) (now (grants .entry)) (registerFault (now (file .entry)) (w .offset) (treeOf (now (table .entry))) (w .least)) (taken (now (file .entry)) (readingOf w (now (table .entry)) (now (grants .entry)))) ⌝ }
+{
+    let node = byte_at(file, w.offset + 1);
+    if misplaced(file, w.offset, table, w.least) {
+        return stopped(16);
+    }
+    let n = node_at(table, node as usize);
+    if unsound(n, registers_in(file, w.offset)) {
+        return stopped(17);
+    }
+    Walk {
+        refusal: 0,
+        offset: past(file, w.offset),
+        registers: begin(w.registers, w.offset),
+        events: w.events,
+        least: node as usize + 1,
     }
 }
 
@@ -193,7 +247,9 @@ fn past_host(file: &[u8], table: &mut Table, grants: &GrantTable, w: Walk) -> Wa
     Walk {
         refusal: 0,
         offset: past(file, w.offset),
+        registers: w.registers,
         events: w.events,
+        least: w.least,
     }
 }
 
@@ -203,7 +259,7 @@ fn step(file: &[u8], whole: bool, table: &mut Table, grants: &mut GrantTable, w:
     ensures { λ r. ⌜ Steps r (now (table .exit)) (now (grants .exit)) (recordFault whole (now (file .entry)) (readingOf w (now (table .entry)) (now (grants .entry)))) (taken (now (file .entry)) (readingOf w (now (table .entry)) (now (grants .entry)))) ⌝ }
 {
     let class = class_in(file, w.offset);
-    let fault = shape_fault(file, whole, class, w.offset, w.events);
+    let fault = shape_fault(file, whole, class, w.offset, w.registers, w.events);
     if fault != 0 {
         return stopped(fault);
     }
@@ -216,17 +272,22 @@ fn step(file: &[u8], whole: bool, table: &mut Table, grants: &mut GrantTable, w:
     if is_a(Class::Seat, class) {
         return past_seat(file, whole, table, grants, w);
     }
+    if is_a(Class::Registers, class) {
+        return past_registers(file, table, grants, w);
+    }
     past_host(file, table, grants, w)
 }
 
 // In front of the first record.
 fn start() -> Walk
-    ensures { λ r. ⌜ (r .offset ≡ 0) × (r .events ≡ 0) ⌝ }
+    ensures { λ r. ⌜ (r .offset ≡ 0) × (r .registers ≡ 0) × (r .events ≡ 0) × (r .least ≡ 0) ⌝ }
 {
     Walk {
         refusal: 0,
         offset: 0,
+        registers: 0,
         events: 0,
+        least: 0,
     }
 }
 
@@ -237,6 +298,7 @@ fn refused_at(refusal: u8, offset: usize) -> Loaded
     Loaded {
         refusal,
         offset,
+        registers: 0,
         table: [0u64; 195],
         grants: [0u32; 1441],
     }
@@ -257,9 +319,11 @@ fn read(file: &[u8], whole: bool) -> Loaded
         }
         w = next;
     }
+    let offset = begin(w.events, w.offset);
     Loaded {
         refusal: 0,
-        offset: begin(w.events, w.offset),
+        offset,
+        registers: begin(w.registers, offset),
         table,
         grants,
     }
@@ -284,7 +348,7 @@ pub fn load_file(file: &[u8]) -> Loaded
     load(file, true)
 }
 
-// The rack bytes of a C call: an event kind is 2, and a faulty seat record does not stop the reading.
+// The rack bytes of a C call: kind 11 and event kinds are 2, and a faulty seat record does not stop the reading.
 pub fn load_alone(file: &[u8]) -> Loaded
     ensures { λ r. ⌜ Loads r (rackAlone (now (file .entry))) ⌝ }
 {

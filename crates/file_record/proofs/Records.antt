@@ -2,7 +2,10 @@
 use mathlib.Core.Path.{_≡_}
 use mathlib.Core.Bool.{Bool, true, false}
 use mathlib.Core.List.{List, [], _∷_}
-use Prim.Native.Nat.{ℕ, _+_}
+use Prim.Native.Nat.{ℕ, _+_, _-_, _≤_}
+use native.Mathlib.Omega.{arith}
+use lib.ListN.{length, take, drop, length-drop}
+use lib.Seq.{length-take-le}
 use borrow.Author.Tests.{eq-eqb, ne-eqb}
 use Rattle.rack.specs.declared.Kind.{Kind}
 use Rattle.rack.specs.declared.Region.{Region}
@@ -10,7 +13,7 @@ use Rattle.rack.specs.declared.Node.{Node}
 use Rattle.rack.specs.definitions.Node.{kindFrom, isBridge, noRegion}
 use Rattle.file_record.specs.declared.Event.the-variants.{Write, Read, Memory, Io, Check, Seat}
 use Rattle.file_record.specs.definitions.Number.{byteIn, wordIn, dwordIn, qwordIn}
-use Rattle.file_record.specs.definitions.Record.{regionFrom, nodeIn}
+use Rattle.file_record.specs.definitions.Record.{regionFrom, nodeIn, registersIn}
 use Rattle.file_record.specs.definitions.Events.{eventIn}
 
 abbrev made : Kind → ℕ → ℕ → ℕ → ℕ → List Region → Node
@@ -57,3 +60,12 @@ module _ (b : List ℕ) (o : ℕ) {kind : ℕ} (ek : kind ≡ byteIn b o) where
   pub check-in : (kind ≡ 4 → ⊥) → (kind ≡ 5 → ⊥) → (kind ≡ 6 → ⊥) → (kind ≡ 7 → ⊥) → (kind ≡ 10 → ⊥) → Check ≡ eventIn b o
   unfolding eventIn
   check-in w r m i s = rw (← ek, ne-eqb kind 4 w, ne-eqb kind 5 r, ne-eqb kind 6 m, ne-eqb kind 7 i, ne-eqb kind 10 s)
+
+-- the register bytes of a record that ends within the file
+pub registers-is : (b : List ℕ) (o : ℕ) → take (o + 66 - (o + 2)) (drop (o + 2) b) ≡ registersIn b o
+registers-is b o = let w : o + 66 - (o + 2) ≡ 64 = omega arith in rw w
+
+pub registers-long : (b : List ℕ) (o : ℕ) → o + 66 ≤ length b → length (take (o + 66 - (o + 2)) (drop (o + 2) b)) ≡ 64
+registers-long b o h =
+    let w : o + 66 - (o + 2) ≡ 64 = omega arith in
+    rw w (length-take-le 64 (drop (o + 2) b) (omega (arith, length-drop (o + 2) b)))

@@ -3,3 +3,4 @@ pub mod Record
 pub mod Events
 pub mod Load
 pub mod Loads
+pub mod Start

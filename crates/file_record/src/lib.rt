@@ -43,22 +43,27 @@ pub enum Class {
     Host,
     Node,
     Seat,
+    Registers,
     Event,
 }
 
-// What is known in front of a record, beside the tables of the rack and of its grants: the record's offset and where the events begin (0 before the
-// first). Or the refusal of the record before it, which is not 0.
+// What is known in front of a record, beside the tables of the rack and of its grants: the record's offset, where the register records
+// and where the events begin (0 before the first), and the least node that a register record may name. Or the refusal of the record before
+// it, which is not 0.
 pub struct Walk {
     pub refusal: u8,
     pub offset: usize,
+    pub registers: usize,
     pub events: usize,
+    pub least: usize,
 }
 
-// What was read: a refusal and its offset; or 0, the offset at which the events begin, the table of the rack and that of its
-// grants.
+// What was read: a refusal and its offset; or 0, the offset at which the events begin, that at which the register records begin, or else
+// the events, the table of the rack and that of its grants.
 pub struct Loaded {
     pub refusal: u8,
     pub offset: usize,
+    pub registers: usize,
     pub table: Table,
     pub grants: GrantTable,
 }

@@ -1,8 +1,9 @@
 // The forms of records; the host's memory and a node from their records.
 ghost use mathlib.Core.Path.{_≡_};
 ghost use mathlib.Core.Bool.{not};
-ghost use Prim.Native.Nat.{_≤_, _<_};
-ghost use Rattle.file_record.specs.definitions.Record.{formOf, sizeOf, classIn, classNumber, isA, isRack, isKnown, cutShort, hostIn, regionFrom, nodeIn, seatIn};
+ghost use Prim.Native.Nat.{_+_, _≤_, _<_};
+ghost use lib.ListN.{length};
+ghost use Rattle.file_record.specs.definitions.Record.{formOf, sizeOf, classIn, classNumber, isA, isRack, isKnown, cutShort, hostIn, regionFrom, nodeIn, seatIn, registersIn};
 use crate::Class;
 use crate::number::qword_in;
 use crate::number::word_in;
@@ -25,12 +26,12 @@ const CLASSES: [Class; 14] = [
     Class::Event,
     Class::Seat,
     Class::Event,
-    Class::Unknown,
+    Class::Registers,
     Class::Unknown,
     Class::Node,
 ];
 
-const BODIES: [u8; 14] = [0, 16, 6, 12, 8, 3, 10, 6, 0, 4, 1, 0, 0, 6];
+const BODIES: [u8; 14] = [0, 16, 6, 12, 8, 3, 10, 6, 0, 4, 1, 65, 0, 6];
 
 fn class_of(kind: u8) -> Class
     ensures { λ r. ⌜ r ≡ formOf kind .class ⌝ }
@@ -50,7 +51,7 @@ pub fn class_in(file: &[u8], o: usize) -> Class
 
 // A record's bytes, its kind too.
 pub fn size_of(kind: u8) -> usize
-    ensures { λ r. ⌜ (r ≡ sizeOf kind) × (1 ≤ r) × (r ≤ 17) ⌝ }
+    ensures { λ r. ⌜ (r ≡ sizeOf kind) × (1 ≤ r) × (r ≤ 66) ⌝ }
 {
     let at = kind as usize;
     if at < 14 {
@@ -67,7 +68,8 @@ fn class_number(c: Class) -> u8
         Class::Host => 1,
         Class::Node => 2,
         Class::Seat => 3,
-        Class::Event => 4,
+        Class::Registers => 4,
+        Class::Event => 5,
     }
 }
 
@@ -85,13 +87,14 @@ pub fn is_rack(c: Class) -> bool
     host | node | is_a(Class::Seat, c)
 }
 
-// Refusal 2: the kind is none that may be read; `whole` says whether events are.
+// Refusal 2: the kind is none that may be read; `whole` says whether register records and events are.
 pub fn no_kind(whole: bool, c: Class) -> bool
     ensures { λ r. ⌜ r ≡ not (isKnown whole c) ⌝ }
 {
     let rack = is_rack(c);
+    let registers = is_a(Class::Registers, c);
     let event = is_a(Class::Event, c);
-    !(rack | (whole & event))
+    !(rack | (whole & (registers | event)))
 }
 
 // Refusal 3: the body is cut short.
@@ -157,6 +160,14 @@ pub fn node_in(file: &[u8], o: usize) -> Node
         device_id,
         regions: [r, s, t],
     }
+}
+
+// The 64 register bytes of a register record.
+pub fn registers_in(file: &[u8], o: usize) -> &[u8]
+    requires { ⌜ o + 66 ≤ length (now file) ⌝ }
+    ensures { λ r. ⌜ (now r ≡ registersIn (now (file .entry)) o) × (length (now r) ≡ 64) ⌝ }
+{
+    &file[o + 2..o + 66]
 }
 
 pub fn seat_in(file: &[u8], o: usize) -> SeatRecord

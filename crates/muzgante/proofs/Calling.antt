@@ -22,7 +22,8 @@ use Rattle.call_table.specs.declared.Reply.{Reply}
 use Rattle.call_table.specs.declared.RangeReply.{RangeReply}
 use Rattle.call_table.specs.definitions.Call.{runIn, checkIn, endsIn}
 use Rattle.call_numbers.specs.definitions.Numbers.{zeros, codeOf, replyNumbers, endsCode, endsNumbers}
-use Rattle.muzgante.specs.definitions.Called.{called, refusedCall, repliedCall, endsCall, rackRun, rackCheck, rackWindow, resetRefusal, rackReset}
+use Rattle.call_numbers.specs.definitions.Called.{called, refusedCall}
+use Rattle.muzgante.specs.definitions.Called.{repliedCall, endsCall, rackRun, rackCheck, rackWindow, resetRefusal, rackReset}
 
 -- a call that is refused, and one that is not
 module _ {A : Type 0} {n m : ℕ} (e : n ≡ m) (given : A) (refused : ℕ → A) where

@@ -1,7 +1,8 @@
 // The event run, for C.
 ghost use mathlib.Core.Path.{_≡_};
 ghost use Rattle.register_image.specs.definitions.Image.{images};
-ghost use Rattle.muzgante.specs.definitions.Called.{called, rackRun};
+ghost use Rattle.call_numbers.specs.definitions.Called.{called};
+ghost use Rattle.muzgante.specs.definitions.Called.{rackRun};
 use call_numbers::put_reply;
 use call_numbers::refuse;
 use file_load::load_alone;

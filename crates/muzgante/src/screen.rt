@@ -2,7 +2,8 @@
 ghost use mathlib.Core.Path.{_≡_};
 ghost use Rattle.register_image.specs.definitions.Image.{images};
 ghost use Rattle.call_numbers.specs.definitions.Numbers.{zeros};
-ghost use Rattle.muzgante.specs.definitions.Called.{called, rackWindow, rackReset};
+ghost use Rattle.call_numbers.specs.definitions.Called.{called};
+ghost use Rattle.muzgante.specs.definitions.Called.{rackWindow, rackReset};
 use call_numbers::put_ends;
 use call_numbers::refuse;
 use file_load::load_alone;

@@ -17,7 +17,7 @@ use Rattle.rack.specs.laws.Bools.{tested}
 use Rattle.rack.specs.definitions.Tree.{Tree, bridgesBelow, devicesBelow, bridgeCount, deviceCount, imageCount}
 use Rattle.rack.specs.laws.TreeLaws.{tree-same, devices-left}
 use Rattle.rack.specs.definitions.Table.{Low, High, End, lowAt, highAt, nodeAt, placeAt, depthAt, treeOf, tableWith}
-use Rattle.rack.specs.definitions.Grow.{noTree, newDepth, grown, treeWith, counting, tree}
+use Rattle.rack.specs.definitions.Grow.{memoryOf, noTree, newDepth, grown, treeWith, counting, tree}
 use Rattle.rack.specs.laws.GrowLaws.{with-count}
 use Rattle.rack.proofs.Words.{kept, low-in, high-in, end-in, low-same, high-same, node-same, node-back}
 
@@ -54,8 +54,8 @@ module _ (h : Range) where
   no-depth : (k : ℕ) → depthAt empty k ≡ 0
   no-depth k = rw (no-high k) (omega arith)
 
-  pub none-held : treeOf empty ≡ noTree h
-  none-held = tree-same refl refl no-node no-place no-depth refl
+  pub none-held : (host : Range) → h ≡ memoryOf host → treeOf empty ≡ noTree host
+  none-held host e = tree-same refl e no-node no-place no-depth refl
 
 -- the depth of a new node's bus is at most its number and one
 pub new-le : (table : List ℕ) (parent : ℕ) → newDepth (treeOf table) parent ≤ treeOf table .count + 1

@@ -1,5 +1,6 @@
 -- The two words of a node: set in a table, and read back.
-use mathlib.Core.Path.{_≡_, refl, _∙_}
+use mathlib.Core.Path.{_≡_, sym, _∙_}
+use mathlib.Core.Bool.{Bool, true, false}
 use mathlib.Core.List.{List}
 use Prim.Native.Nat.{ℕ, _+_, _*_, _/_, _%_, _<_}
 use native.Mathlib.Omega.{arith}
@@ -7,12 +8,12 @@ use borrow.Author.Tests.{lt-ltb, ltb-true}
 use lib.Dec.{ltb}
 use lib.ListN.{length, getD, set, length-set}
 use lib.Seq.{getD-set-same, getD-set-other}
-use Rattle.rack.specs.declared.Kind.{Kind}
-use Rattle.rack.specs.declared.Kind.the-variants.{Device, Bridge, OlderBridge}
+use Rattle.rack.specs.declared.Region.{Region}
 use Rattle.rack.specs.declared.Node.{Node}
 use Rattle.rack.specs.laws.Bools.{tested}
-use Rattle.rack.specs.definitions.Node.{kindNumber, kindFrom, spelt}
-use Rattle.rack.specs.definitions.Table.{Low, High, nodeFrom, lowAt, highAt, nodeAt, tableWith}
+use Rattle.rack.specs.laws.NodeLaws.{kind-back}
+use Rattle.rack.specs.definitions.Node.{kindNumber, isBridge, noRegion, regionIn, ownRegion, spelt}
+use Rattle.rack.specs.definitions.Table.{Bytes, Low, High, nodeFrom, lowAt, highAt, nodeAt, tableWith}
 
 -- a node whose two words are those of another table
 module _ (table other : List ℕ) (k : ℕ) (low : k < 96 → getD table (2 * k) 0 ≡ getD other (2 * k) 0)
@@ -57,10 +58,23 @@ module _ (table : List ℕ) (i lo hi end : ℕ) where
     pub end-in : getD (tableWith table i lo hi end) 194 0 ≡ end
     end-in = getD-set-same (set (set table (2 * i) lo) (2 * i + 1) hi) 194 end 0 (simp length-set (omega arith))
 
-kind-back : (k : Kind) → kindFrom (kindNumber k) ≡ k
-kind-back Device = refl
-kind-back Bridge = refl
-kind-back OlderBridge = refl
+-- a region of a node as the code finds it
+module _ (n : Node) (r : ℕ) {b : Bool} (is : b ≡ isBridge (n .kind)) where
+  pub own-none : b ≡ true → noRegion ≡ ownRegion n r
+  own-none q = rw (sym is ∙ q)
+
+  pub own-is : b ≡ false → regionIn n r ≡ ownRegion n r
+  own-is q = rw (sym is ∙ q)
+
+-- the two words from these regions
+pub low-holds : (n : Node) {place w k : ℕ} {r s : Region} → r ≡ ownRegion n 0 → s ≡ ownRegion n 1 → k ≡ kindNumber (n .kind)
+    → Bytes w k (n .parent) (n .device) place (r .kind) (r .exponent) (s .kind) (s .exponent) → Low n place w
+low-holds n e f g h = rw (e, f, g) at h
+
+pub high-holds : (n : Node) {depth w : ℕ} {r : Region} → r ≡ ownRegion n 2
+    → Bytes w (r .kind) (r .exponent) (n .«vendor_id» % 256) (n .«vendor_id» / 256) (n .«device_id» % 256) (n .«device_id» / 256) depth 0
+    → High n depth w
+high-holds n e h = rw e at h
 
 -- the node that its two words hold
 pub node-back : (n : Node) (place depth lo hi : ℕ) → Low n place lo → High n depth hi → nodeFrom lo hi ≡ spelt n

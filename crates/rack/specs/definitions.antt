@@ -1,4 +1,5 @@
 pub mod Node
+pub mod Buffer
 pub mod Count
 pub mod Tree
 pub mod Stored

@@ -4,3 +4,5 @@ pub mod Search
 pub mod TreeLaws
 pub mod FirstLaws
 pub mod GrowLaws
+pub mod NodeLaws
+pub mod Copied

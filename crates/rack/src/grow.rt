@@ -5,7 +5,7 @@ ghost use Prim.Native.Nat.{_+_, _<_};
 ghost use lib.ListN.{length};
 ghost use Rattle.rack.specs.definitions.Tree.{bridgeCount, deviceCount};
 ghost use Rattle.rack.specs.definitions.Table.{treeOf, tableWith};
-ghost use Rattle.rack.specs.definitions.Grow.{noTree, newDepth, grown};
+ghost use Rattle.rack.specs.definitions.Grow.{memoryOf, noTree, newDepth, grown};
 use crate::Node;
 use crate::Range;
 use crate::table::Table;
@@ -19,13 +19,24 @@ use crate::table::high_word;
 use crate::table::low_word;
 use crate::table::pick;
 
+// Host memory; none has one form.
+fn memory_of(host: Range) -> Range
+    ensures { λ r. ⌜ r ≡ memoryOf host ⌝ }
+{
+    if host.last < host.first {
+        return Range { first: 1, last: 0 };
+    }
+    host
+}
+
 // A table without nodes.
 pub fn no_table(host: Range) -> Table
     ensures { λ r. ⌜ treeOf r ≡ noTree host ⌝ }
 {
+    let memory = memory_of(host);
     let mut table = [0u64; 195];
-    table[192] = host.first;
-    table[193] = host.last;
+    table[192] = memory.first;
+    table[193] = memory.last;
     table
 }
 

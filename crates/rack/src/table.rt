@@ -4,7 +4,7 @@ ghost use Prim.Native.Nat.{_+_, _/_, _%_, _<_, min, max};
 ghost use mathlib.Core.Bool.{cond};
 ghost use Rattle.rack.specs.definitions.Tree.{bridgesBelow};
 ghost use Rattle.rack.specs.definitions.Grow.{counting, tree};
-ghost use Rattle.rack.specs.definitions.Node.{isBridge};
+ghost use Rattle.rack.specs.definitions.Node.{isBridge, ownRegion};
 ghost use Rattle.rack.specs.definitions.Table.{Bytes, Low, High, End, nodeFrom, lowAt, highAt, nodeAt, treeOf};
 use crate::Node;
 use crate::Rack;
@@ -28,13 +28,29 @@ fn word_of(a: u8, b: u8, c: u8, d: u8, e: u8, f: u8, g: u8, h: u8) -> u64
         + a as u64
 }
 
+// A region of a node; a bridge has none.
+fn own_region(n: Node, r: usize) -> Region
+    requires { ⌜ r < 3 ⌝ }
+    ensures { λ g. ⌜ g ≡ ownRegion n r ⌝ }
+{
+    let kind = n.kind;
+    if crate::is_bridge(kind) {
+        return Region {
+            kind: 0,
+            exponent: 0,
+        };
+    }
+    n.regions[r]
+}
+
 pub fn low_word(n: Node, place: u8) -> u64
     ensures { λ r. ⌜ Low n place r ⌝ }
 {
-    let r = n.regions[0];
-    let s = n.regions[1];
+    let r = own_region(n, 0);
+    let s = own_region(n, 1);
+    let kind = n.kind;
     word_of(
-        crate::kind_number(n.kind),
+        crate::kind_number(kind),
         n.parent,
         n.device,
         place,
@@ -48,7 +64,7 @@ pub fn low_word(n: Node, place: u8) -> u64
 pub fn high_word(n: Node, depth: u8) -> u64
     ensures { λ r. ⌜ High n depth r ⌝ }
 {
-    let r = n.regions[2];
+    let r = own_region(n, 2);
     word_of(
         r.kind,
         r.exponent,

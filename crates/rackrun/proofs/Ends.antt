@@ -10,8 +10,8 @@ use Rattle.rack.specs.laws.Bools.{tested}
 use Rattle.rack.specs.definitions.Tree.{Tree}
 use Rattle.seat.specs.definitions.Grants.{Grants}
 use Rattle.register_image.specs.definitions.Image.{Images}
-use Rattle.register_image.specs.definitions.Reset.{resetImages}
 use Rattle.file_record.specs.definitions.Number.{byteIn}
+use Rattle.file_record.specs.definitions.Start.{startFrom}
 use Rattle.file_record.specs.laws.RecordLaws.{size-least}
 use Rattle.print_file.specs.declared.Cursor.{Cursor}
 use Rattle.print_file.specs.declared.Filled.{Filled}
@@ -90,10 +90,10 @@ module _ (t : Tree) (g : Grants) (b : List ℕ) (at : Cursor) (im₀ : Images) w
   left-all e = record { same = refl; counted = omega (arith, ap (λ (k : Cursor). k .number) e) }
 
   module _ {next : Cursor} {im : Images} (l : Left next im) where
-    -- the run that began at the first event, from reset, has ended
-    pub left-end : {offset : ℕ} (old : Images) → Accepted b t g offset → at ≡ firstAt offset → im₀ ≡ resetImages t old
+    -- the run that began at the first event, from the file's registers, has ended
+    pub left-end : {registers offset : ℕ} (old : Images) → Accepted b t g registers offset → at ≡ firstAt offset → im₀ ≡ startFrom b t registers offset old
         → length b ≤ next .offset → Prints (UpTo next) im (runEnd b old)
-    left-end old a e r h = rw (← a .tree, ← a .grants, ← a .first, ← e, ← r) (sym (l .same ∙ end-past t g b (length b) next im h))
+    left-end old a e r h = rw (← a .tree, ← a .grants, ← a .held, ← a .first, ← e, ← r) (sym (l .same ∙ end-past t g b (length b) next im h))
 
     module _ {r : Printed} {to : Cursor} (e : r ≡ UpTo to) (after : Images) (p : Prints r after (afterPart (partOf t g b 65536 next im))) where
       printed : place to after ≡ afterPart (partOf t g b 65536 next im)

@@ -74,19 +74,20 @@ fn print_part(
     Printed::Failed
 }
 
-// The whole output of an accepted file, part by part, with its tables and the offset of its first event.
+// The whole output of an accepted file, part by part, with its tables and the offsets of its first register record and its first event.
 fn print_events(
     file: &[u8],
     table: &Table,
     grants: &GrantTable,
     bridges: &mut [u8],
     devices: &mut [u8],
+    registers: usize,
     offset: usize,
 ) -> Printed
-    requires { ⌜ Accepted (now file) (treeOf (now table)) (grantsOf (now grants)) offset × (lengthsWrong (treeOf (now table)) (images (now bridges) (now devices)) ≡ false) ⌝ }
+    requires { ⌜ Accepted (now file) (treeOf (now table)) (grantsOf (now grants)) registers offset × (lengthsWrong (treeOf (now table)) (images (now bridges) (now devices)) ≡ false) ⌝ }
     ensures { λ r. ⌜ Prints r (images (now (bridges .exit)) (now (devices .exit))) (runEnd (now (file .entry)) (images (now (bridges .entry)) (now (devices .entry)))) ⌝ }
 {
-    let mut next = start(table, bridges, devices, offset);
+    let mut next = start(file, table, bridges, devices, registers, offset);
     while next.offset < file.len() {
         let Printed::UpTo(on) = print_part(file, table, grants, bridges, devices, next) else {
             return Printed::Failed;
@@ -111,7 +112,7 @@ fn devices_image() -> [u8; 4096]
 
 // Runs an accepted file; whether its output could be written.
 fn run_loaded(file: &[u8], l: Loaded) -> bool
-    requires { ⌜ Accepted (now file) (treeOf (l .table)) (grantsOf (l .grants)) (l .offset) ⌝ }
+    requires { ⌜ Accepted (now file) (treeOf (l .table)) (grantsOf (l .grants)) (l .registers) (l .offset) ⌝ }
 {
     let count = count_of(&l.table) as usize;
     let b = bridges_below(&l.table, count);
@@ -125,6 +126,7 @@ fn run_loaded(file: &[u8], l: Loaded) -> bool
         &grants,
         &mut bridges[..64 * b],
         &mut devices[..64 * d],
+        l.registers,
         l.offset,
     );
     match printed {

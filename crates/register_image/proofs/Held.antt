@@ -1,19 +1,21 @@
 -- The image that holds a node is found by the node's kind: what holds after the code has looked the node up.
-use mathlib.Core.Path.{_≡_}
+use mathlib.Core.Path.{_≡_, refl}
 use mathlib.Core.Bool.{Bool, true, false}
 use mathlib.Core.List.{List, []}
-use Prim.Native.Nat.{ℕ, _<_, _≤_}
-use borrow.Author.Tests.{lt-ltb, le-ltb}
+use Prim.Native.Nat.{ℕ, _+_, _<_, _≤_}
+use borrow.Author.Tests.{lt-ltb, le-ltb, eq-eqb, ne-eqb}
 use lib.ListN.{getD}
 use Rattle.rack.specs.declared.Node.{Node}
 use Rattle.rack.specs.definitions.Node.{isBridge}
 use Rattle.rack.specs.definitions.Tree.{Tree}
+use Rattle.rack.specs.laws.CountLaws.{NoneYet, some-next, some-found}
 use Rattle.register_header.specs.declared.Side.{Side}
 use Rattle.register_header.specs.declared.StatusBit.{StatusBit}
+use Rattle.register_header.specs.definitions.Mask.{resetByte}
 use Rattle.register_header.specs.definitions.Register.{writeRegister, setStatus}
-use Rattle.register_image.specs.definitions.Image.{images, nodePart, onPart, view, onNode, writeNode, statusNode}
+use Rattle.register_image.specs.definitions.Image.{images, nodePart, onPart, view, onNode, writeNode, statusNode, setNode}
 use Rattle.register_image.specs.definitions.Fixed.{valueWrong, byteWrong}
-use Rattle.register_image.specs.definitions.Reset.{resetPart}
+use Rattle.register_image.specs.definitions.Reset.{resetPart, byteChanged, isChanged}
 
 module _ (t : Tree) (b d : List ℕ) (i : ℕ) {count : ℕ} (at : count ≡ t .count) where
   -- a missing node
@@ -72,7 +74,25 @@ module _ (t : Tree) (b d : List ℕ) (i : ℕ) {count : ℕ} (at : count ≡ t .
         → images b l ≡ onNode t (images b d) i (λ part. resetPart (t .node i))
     reset-device = on-device (λ m part. resetPart m)
 
+    module _ (bytes : List ℕ) where
+      pub set-bridge : bridge ≡ true → l ≡ onPart b p (λ part. bytes) → images l d ≡ setNode t (images b d) i bytes
+      set-bridge = on-bridge (λ m part. bytes)
+
+      pub set-device : bridge ≡ false → l ≡ onPart d p (λ part. bytes) → images b l ≡ setNode t (images b d) i bytes
+      set-device = on-device (λ m part. bytes)
+
 -- a byte of a part that was looked up
 pub byte-is : (n : Node) (part : List ℕ) (at : ℕ) {v : ℕ} {b : Bool} → v ≡ getD part at 0 → b ≡ valueWrong n at v → b ≡ byteWrong n part at
 unfolding byteWrong
 byte-is n part at e q = rw (← e) q
+
+-- a byte that is at reset, or is not, after those that are
+module _ (n : Node) (part : List ℕ) (at : ℕ) {v w : ℕ} (h : at < 64) (yet : NoneYet (byteChanged n part) 64 at) (e : v ≡ getD part at 0)
+    (r : w ≡ resetByte n at) where
+  pub changed-next : v ≡ w → NoneYet (byteChanged n part) 64 (at + 1)
+  unfolding byteChanged
+  changed-next q = some-next (byteChanged n part) yet h refl (rw (← e, ← r, eq-eqb v w q))
+
+  pub changed-found : (v ≡ w → ⊥) → true ≡ isChanged n part
+  unfolding byteChanged
+  changed-found q = some-found (byteChanged n part) yet refl h refl (rw (← e, ← r, ne-eqb v w q))

@@ -15,7 +15,8 @@ fn value_wrong(n: Node, at: usize, value: u8) -> bool
     (value & fixed) != (register_header::mask::reset_byte(n, at) & fixed)
 }
 
-fn part_wrong(n: Node, part: &[u8]) -> bool
+// Whether a fixed bit of a node's registers does.
+pub fn part_wrong(n: Node, part: &[u8]) -> bool
     ensures { λ r. ⌜ r ≡ partWrong n (now (part .entry)) ⌝ }
 {
     let mut at: usize = 0;

@@ -2,4 +2,5 @@
 pub mod fixed;
 pub mod image;
 pub mod reset;
+pub mod set;
 pub mod sizing;

@@ -3,7 +3,7 @@ ghost use mathlib.Core.Path.{_≡_};
 ghost use lib.ListN.{length};
 ghost use Rattle.rack.specs.definitions.Table.{treeOf};
 ghost use Rattle.register_image.specs.definitions.Image.{images, onPart, onNode};
-ghost use Rattle.register_image.specs.definitions.Reset.{resetPart, resetImages};
+ghost use Rattle.register_image.specs.definitions.Reset.{resetPart, isChanged, resetImages};
 use rack::Node;
 use rack::table::Table;
 use rack::table::count_of;
@@ -17,6 +17,21 @@ fn reset_part(part: &mut [u8], n: Node)
         part[at] = register_header::mask::reset_byte(n, at);
         at += 1;
     }
+}
+
+// Whether a node's registers differ from reset.
+pub fn is_changed(n: Node, part: &[u8]) -> bool
+    ensures { λ r. ⌜ r ≡ isChanged n (now (part .entry)) ⌝ }
+{
+    let mut at: usize = 0;
+    while at < 64 {
+        let value = register_header::register::byte_at(part, at);
+        if value != register_header::mask::reset_byte(n, at) {
+            return true;
+        }
+        at += 1;
+    }
+    false
 }
 
 fn reset_at(image: &mut [u8], place: usize, n: Node)

@@ -4,17 +4,17 @@ use mathlib.Core.Bool.{Bool, true, false, cond, _&&_, and-false, true≢false}
 use mathlib.Core.List.{List}
 use Prim.Native.Nat.{ℕ, zero, suc, _+_, _%_, _≤_, _<_}
 use native.Mathlib.Omega.{arith}
-use lib.Dec.{leb, ltb, eqb}
+use lib.Dec.{ltb, eqb}
 use lib.ListN.{length, getD, set, replicate}
 use lib.Seq.{getD-set-same, getD-set-other}
-use borrow.Author.Tests.{eqb-true, eqb-false, eq-eqb, lt-ltb, le-ltb, ltb-true, ltb-false, le-leb, lt-leb}
+use borrow.Author.Tests.{eqb-true, eqb-false, eq-eqb, lt-ltb, le-ltb, ltb-true, ltb-false, le-leb}
 use Rattle.rack.specs.declared.Grant.{Grant}
 use Rattle.rack.specs.declared.Rack.{Rack}
 use Rattle.rack.specs.definitions.Count.{some}
 use Rattle.rack.specs.laws.Bools.{tested, both}
 use Rattle.rack.specs.laws.CountLaws.{NoneYet, some-next, some-found, some-none}
 use Rattle.seat.specs.declared.SeatRecord.{SeatRecord}
-use Rattle.seat.specs.definitions.Grants.{Grants, noGrant, noGrants, seatWrong, granting, faulty, isPair, slot, namedMissing, grants}
+use Rattle.seat.specs.definitions.Grants.{Grants, noGrant, ownGrant, noGrants, seatWrong, granting, faulty, isPair, slot, namedMissing, grants}
 use Rattle.seat.specs.definitions.Table.{grantNumber, grantFrom, numberAt, grantsOf}
 use Rattle.seat.specs.laws.Writing.{sound-pair}
 use Rattle.seat.specs.laws.Stored.{grants-same, pair-is, pair-below}
@@ -33,15 +33,13 @@ pub none-held : grantsOf (replicate 1441 0) ≡ noGrants
 none-held = grants-same (λ seat node. ap grantFrom (no-number seat node)) refl
 
 -- a grant's number holds the grant
-grant-back : (g : Grant) → g .mask < 65536 → grantFrom (grantNumber g) ≡ g
+grant-back : (g : Grant) → g .mask < 65536 → grantFrom (grantNumber g) ≡ ownGrant g
 grant-back g l =
     tested (g .named)
     (λ q.
     let m : (65536 + g .mask) % 65536 ≡ g .mask = omega arith in
     rw (q, le-leb 65536 (65536 + g .mask) (omega arith), m))
-    (λ q.
-    let m : g .mask % 65536 ≡ g .mask = omega arith in
-    rw (q, lt-leb 65536 (g .mask) l, m))
+    (λ q. rw q)
 
 -- one number set: its pair's grant is another, and each other stays
 module _ (table : List ℕ) (k number : ℕ) (long : length table ≡ 1441) where
@@ -106,7 +104,7 @@ module _ (table : List ℕ) (count : ℕ) (r : SeatRecord) (few : count ≤ 96) 
 abbrev pub grantsTo : Rack → ℕ → Grants
 grantsTo rack k =
     record {
-      grant = λ seat node. cond (isPair seat node && ltb (slot seat node) k) (getD (rack .grants) (slot seat node) noGrant) noGrant;
+      grant = λ seat node. cond (isPair seat node && ltb (slot seat node) k) (ownGrant (getD (rack .grants) (slot seat node) noGrant)) noGrant;
       wrong = false;
     }
 

@@ -56,11 +56,7 @@ pub fn add_grant(grants: &mut GrantTable, count: u8, r: SeatRecord)
 fn grant_number(g: Grant) -> u32
     ensures { λ r. ⌜ (r ≡ grantNumber g) × (g .mask < 65536) ⌝ }
 {
-    if g.named {
-        65536 + g.mask as u32
-    } else {
-        g.mask as u32
-    }
+    if g.named { 65536 + g.mask as u32 } else { 0 }
 }
 
 // Whether a decoded rack names a node that is missing.

@@ -3,6 +3,7 @@ ghost use mathlib.Core.Path.{_≡_};
 ghost use Prim.Native.Nat.{_≤_, _<_};
 ghost use Rattle.seat.specs.definitions.Grants.{acting, hasDword, mayWrite, unknownSeat, slot};
 ghost use Rattle.seat.specs.definitions.Table.{numberAt, grantsOf};
+use rack::Grant;
 
 // A number for each pair of seats 1 to 15 and 96 nodes, then 1 where a seat record is faulty.
 pub type GrantTable = [u32; 1441];
@@ -30,6 +31,17 @@ pub fn is_named(grants: &GrantTable, seat: u8, node: u8) -> bool
     ensures { λ r. ⌜ r ≡ grantsOf (now (grants .entry)) .grant seat node .named ⌝ }
 {
     65536 <= number_at(grants, seat, node)
+}
+
+// What a seat may write of a node.
+pub fn grant_at(grants: &GrantTable, seat: u8, node: u8) -> Grant
+    ensures { λ r. ⌜ r ≡ grantsOf (now (grants .entry)) .grant seat node ⌝ }
+{
+    let number = number_at(grants, seat, node);
+    Grant {
+        named: 65536 <= number,
+        mask: (number % 65536) as u16,
+    }
 }
 
 fn has_dword(mask: u32, i: u8) -> bool

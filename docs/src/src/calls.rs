@@ -2,6 +2,7 @@
 //! first refusal; a refused call leaves both images as they are.
 
 use crate::answer::Answer;
+use crate::bytes::put;
 use crate::claims;
 use crate::file;
 use crate::machine::Machine;
@@ -9,6 +10,7 @@ use crate::program::{run_check, run_event};
 use crate::rack::{Event, Node, Rack};
 use crate::refuse::{self, Fields};
 use crate::registers;
+use crate::saved;
 use crate::windows::{region_ends, Address, Ends, Windows};
 
 /// The machine of a call that is not refused: 6 to 12, then 13 and 14.
@@ -27,8 +29,8 @@ fn rack_of_bytes(records: &[u8]) -> Result<Rack, u8> {
 
 /// Hands the registers back to the lent images; their lengths are equal by refusal 11.
 fn hand_back(machine: &Machine, bridges: &mut [u8], devices: &mut [u8]) {
-    crate::bytes::put(bridges, 0, machine.bridges());
-    crate::bytes::put(devices, 0, machine.devices());
+    put(bridges, 0, machine.bridges());
+    put(devices, 0, machine.devices());
 }
 
 /// Runs one event: "A call that runs an event is told the acting seat". 15 is looked at for
@@ -83,6 +85,59 @@ pub fn reset_of_bytes(records: &[u8], bridges: &mut [u8], devices: &mut [u8]) ->
     }
     hand_back(&Machine::at_reset(rack)?, bridges, devices);
     Ok(())
+}
+
+/// The writer: the file of the rack with these registers, into the lent buffer; gives its length.
+/// 6 to 12 and 14, then "a lent buffer too short for the writer's file is 11 too, tested after all
+/// others; a refusal leaves the buffer untouched, and a file that fits the bytes past it".
+pub fn save(rack: &Rack, bridges: &[u8], devices: &[u8], buffer: &mut [u8]) -> Result<usize, u8> {
+    let file = saved::file(&accept(rack, bridges, devices, &Fields::default())?);
+    if buffer.len() < file.len() {
+        return Err(11);
+    }
+    put(buffer, 0, &file);
+    Ok(file.len())
+}
+
+/// The same with the rack records as bytes.
+pub fn save_of_bytes(
+    records: &[u8],
+    bridges: &[u8],
+    devices: &[u8],
+    buffer: &mut [u8],
+) -> Result<usize, u8> {
+    save(&rack_of_bytes(records)?, bridges, devices, buffer)
+}
+
+/// What [`start_of_file`] tells.
+#[derive(Clone, Copy, Debug, PartialEq, Eq)]
+pub struct Start {
+    /// How many bytes stand before the first register record or event, or the refusal's number.
+    pub records: Result<usize, u8>,
+    /// How many bridges the file has; 0 if the file itself is refused.
+    pub bridges: usize,
+    /// How many devices it has, likewise.
+    pub devices: usize,
+}
+
+/// The registers that a run of a whole file "starts from ... instead of reset", into both images:
+/// 1 to 10 and 13 to 17 as for a file, then 11. As in a reset, what stands in the images plays no
+/// part. Images of the wrong length get to know the right ones from the counts.
+pub fn start_of_file(bytes: &[u8], bridges: &mut [u8], devices: &mut [u8]) -> Start {
+    let read = file::read(bytes).map_err(|refused| refused.number).and_then(|contents| {
+        let machine = Machine::with_registers(contents.rack, &contents.registers)?;
+        Ok((contents.records, machine))
+    });
+    let (records, machine) = match read {
+        Ok(read) => read,
+        Err(number) => return Start { records: Err(number), bridges: 0, devices: 0 },
+    };
+    let rack = machine.rack();
+    let records = refuse::lengths(rack, bridges, devices).map_or(Ok(records), Err);
+    if records.is_ok() {
+        hand_back(&machine, bridges, devices);
+    }
+    Start { records, bridges: rack.bridge_count(), devices: rack.device_count() }
 }
 
 /// The register view. A refused one has no part but the number: "The view shows an

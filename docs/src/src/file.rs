@@ -1,10 +1,11 @@
-//! "The rack file", read to a rack with its events or to a refusal.
+//! "The rack file", read to a rack with its registers and events or to a refusal.
 
 use std::fmt;
 
-use crate::bytes::{u16_at, u32_at, u64_at, u8_at};
+use crate::bytes::{put, u16_at, u32_at, u64_at, u8_at};
 use crate::rack::{Event, Header, Node, Options, Rack, Region};
 use crate::refuse::{self, Fields};
+use crate::registers::{Saved, PART};
 use crate::seats::{Grant, Grants};
 
 /// 1: "The file is longer than 65,536 bytes."
@@ -13,7 +14,7 @@ pub const LONGEST: usize = 65_536;
 /// A refusal of a file: "`refused N at O`".
 #[derive(Clone, Copy, Debug, PartialEq, Eq)]
 pub struct Refused {
-    /// 1 to 10 and 13 to 15.
+    /// 1 to 10 and 13 to 17.
     pub number: u8,
     /// "the record's offset (65,536 for 1; 0 if empty)"
     pub offset: usize,
@@ -26,7 +27,7 @@ impl fmt::Display for Refused {
 }
 
 /// The body's length by kind; none if "The kind is not 1 to 8" nor one of those that "become
-/// known to refusal 2": 9, 10 and 13.
+/// known to refusal 2": 9, 10, 11 and 13.
 fn body_length(kind: u8) -> Option<usize> {
     match kind {
         1 => Some(16),
@@ -37,14 +38,16 @@ fn body_length(kind: u8) -> Option<usize> {
         6 => Some(10),
         7 => Some(6),
         8 => Some(0),
-        9 => Some(4),  // "seat, node, two-byte mask"
-        10 => Some(1), // the seat
-        13 => Some(6), // "Kind 13 has kind 2's body"
+        9 => Some(4),         // "seat, node, two-byte mask"
+        10 => Some(1),        // the seat
+        11 => Some(1 + PART), // "a node and its 64 register bytes"
+        13 => Some(6),        // "Kind 13 has kind 2's body"
         _ => None,
     }
 }
 
-/// "Kinds 1 to 3 are rack records, 4 to 8 events." Kind 10 is an event, 9 and 13 are none.
+/// "Kinds 1 to 3 are rack records, 4 to 8 events." Kind 10 is an event, 9, 11 and 13 are
+/// none.
 fn is_event(kind: u8) -> bool {
     matches!(kind, 4..=8 | 10)
 }
@@ -54,60 +57,86 @@ fn is_event(kind: u8) -> bool {
 enum Source {
     /// A whole rack file: rack records, then events.
     File,
-    /// The rack bytes of a call: rack records alone.
+    /// The rack bytes of a call: rack records alone, without registers.
     Call,
 }
 
+impl Source {
+    /// Whether a record of that kind may stand here: in a call "an event kind there being 2", and
+    /// "In a C call's rack bytes kind 11 is 2."
+    fn has(self, kind: u8) -> bool {
+        self == Source::File || !is_event(kind) && kind != 11
+    }
+}
+
+/// A whole rack file that is not refused.
+#[derive(Clone, Debug, PartialEq, Eq)]
+pub struct Contents {
+    /// The rack.
+    pub rack: Rack,
+    /// The register records: what differs from reset where the run starts.
+    pub registers: Vec<Saved>,
+    /// The events.
+    pub events: Vec<Event>,
+    /// How many bytes stand before the first register record or event.
+    pub records: usize,
+}
+
 /// A whole rack file: rack records, then events.
-pub fn read(bytes: &[u8]) -> Result<(Rack, Vec<Event>), Refused> {
+pub fn read(bytes: &[u8]) -> Result<Contents, Refused> {
     read_records(bytes, Source::File)
 }
 
-/// The rack records of a call: "1 to 10 as for a file, an event kind there being 2". A faulty
-/// seat record does not stop the reading, as 14 comes "after 13"; the grants then say so.
+/// The rack records of a call: "1 to 10 as for a file, an event kind there being 2", and kind 11
+/// too. A faulty seat record does not stop the reading, as 14 comes "after 13"; the grants then
+/// say so.
 pub fn read_rack(bytes: &[u8]) -> Result<Rack, Refused> {
-    read_records(bytes, Source::Call).map(|(rack, _)| rack)
+    read_records(bytes, Source::Call).map(|contents| contents.rack)
 }
 
 /// "A file stops at its first faulty record, with the record's offset".
-fn read_records(bytes: &[u8], source: Source) -> Result<(Rack, Vec<Event>), Refused> {
+fn read_records(bytes: &[u8], source: Source) -> Result<Contents, Refused> {
     if bytes.len() > LONGEST {
         return Err(Refused { number: 1, offset: LONGEST });
     }
-    let mut reading = Reading { source, rack: None, events: Vec::new() };
-    let mut offset = 0;
+    let (registers, events) = (Vec::new(), Vec::new());
+    let mut reading = Reading { source, rack: None, registers, events };
+    let (mut offset, mut records) = (0, 0);
     while let Some(rest) = bytes.get(offset..).filter(|rest| !rest.is_empty()) {
         match one_record(rest, source).and_then(|(kind, body)| reading.take(kind, body)) {
             Ok(length) => offset += 1 + length,
             Err(number) => return Err(Refused { number, offset }),
         }
+        if reading.registers.is_empty() && reading.events.is_empty() {
+            records = offset;
+        }
     }
     // 4: "There is no record"
     let rack = reading.rack.ok_or(Refused { number: 4, offset: 0 })?;
-    Ok((rack, reading.events))
+    Ok(Contents { rack, registers: reading.registers, events: reading.events, records })
 }
 
 /// Kind and body of the record that `bytes` begin with, or refusal 2 or 3. Kinds that may not
 /// stand here are as unknown as those that no record has.
 fn one_record(bytes: &[u8], source: Source) -> Result<(u8, &[u8]), u8> {
     let kind = u8_at(bytes, 0);
-    let may_stand = source == Source::File || !is_event(kind);
     // 2: "The kind is not 1 to 8."
-    let length = body_length(kind).filter(|_| may_stand).ok_or(2u8)?;
+    let length = body_length(kind).filter(|_| source.has(kind)).ok_or(2u8)?;
     // 3: "The body is cut short."
     let body = bytes.get(1..1 + length).ok_or(3u8)?;
     Ok((kind, body))
 }
 
-/// What has been read so far.
+/// What has been read so far: first nodes and seats, then registers, then events.
 struct Reading {
     source: Source,
     rack: Option<Rack>,
+    registers: Vec<Saved>,
     events: Vec<Event>,
 }
 
 impl Reading {
-    /// Takes one record and gives its body's length, or the refusal (4 to 15).
+    /// Takes one record and gives its body's length, or the refusal (4 to 17).
     fn take(&mut self, kind: u8, body: &[u8]) -> Result<usize, u8> {
         match (&mut self.rack, kind) {
             (None, 1) => {
@@ -125,8 +154,17 @@ impl Reading {
                     None => self.events.push(event),
                 }
             }
-            // 5: "A rack record follows an event."
+            // 5: "A rack record follows an event.", which "also covers a register record".
             (Some(_), _) if !self.events.is_empty() => return Err(5),
+            (Some(rack), 11) => {
+                let (saved, before) = (saved(body), self.registers.last());
+                match refuse::registers(rack, before.map(|before| before.node), &saved) {
+                    Some(number) => return Err(number),
+                    None => self.registers.push(saved),
+                }
+            }
+            // 5, which covers "any other rack record after a register record" too.
+            (Some(_), _) if !self.registers.is_empty() => return Err(5),
             (Some(rack), 9) => {
                 rack.grants.take(rack.nodes.len(), grant(body));
                 // In a file 14 stands at its record; a call gives it in its turn.
@@ -172,6 +210,13 @@ pub(crate) fn node(kind: u8, body: &[u8]) -> Node {
 /// "kind 9: seat, node, two-byte mask"
 fn grant(body: &[u8]) -> Grant {
     Grant { seat: u8_at(body, 0), node: u8_at(body, 1), mask: u16_at(body, 2) }
+}
+
+/// "Kind 11 holds a node and its 64 register bytes".
+fn saved(body: &[u8]) -> Saved {
+    let mut part = [0; PART];
+    put(&mut part, 0, body.get(1..).unwrap_or(&[]));
+    Saved { node: u8_at(body, 0), part }
 }
 
 /// The event of a kind and body of the right length; none for other kinds.

@@ -1,12 +1,14 @@
 //! A second, independent implementation of `01-scope.md` ("Bridge trees, claims and routes")
-//! with requests E1, E4, E11 and E14 of `02-change-requests.md`. Text in quotes in the comments
-//! is a sentence of these two documents; what speaks of seats is from E1, what speaks of special
-//! cycles from E4, what speaks of older bridges from E11, what speaks of the arbiter from E14.
+//! with requests E1, E2, E4, E11 and E14 of `02-change-requests.md`. Text in quotes in the comments
+//! is a sentence of these two documents; what speaks of seats is from E1, what speaks of saved
+//! racks and register records from E2, what speaks of special cycles from E4, what speaks of older
+//! bridges from E11, what speaks of the arbiter from E14.
 //!
-//! - [`file`]: a rack file read to a rack and its events, or to a refusal.
+//! - [`file`]: a rack file read to a rack, its registers and its events, or to a refusal.
+//! - [`saved`]: a rack and its registers written to a rack file.
 //! - [`rack`]: the decoded rack, a bridge's options, buses and agents.
 //! - [`seats`]: what each seat may write.
-//! - [`refuse`]: refusals 6 to 15 of a decoded rack, images and a call's fields.
+//! - [`refuse`]: refusals 6 to 17 of a decoded rack, images, a call's fields and register records.
 //! - [`registers`]: masks, reset images, register read and write, sizing.
 //! - [`machine`]: a rack that passed 6 to 10 with images that passed 11 and 12.
 //! - [`windows`]: both ends of windows and regions, and the windows' predicates.
@@ -32,6 +34,7 @@ pub mod rack;
 pub mod refuse;
 pub mod registers;
 pub mod route;
+pub mod saved;
 pub mod script;
 pub mod seats;
 pub mod windows;

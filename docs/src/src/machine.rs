@@ -2,6 +2,7 @@
 
 use crate::bytes::{put, u16_at};
 use crate::rack::{Node, Rack};
+use crate::registers::Saved;
 use crate::{refuse, registers};
 
 /// A side of a bridge; a device has only the primary one.
@@ -39,6 +40,21 @@ impl Machine {
             Some(number) => return Err(number),
         };
         Ok(Machine { rack, bridges, devices })
+    }
+
+    /// The rack with the registers of these records and else at reset, or the number (6 to 10, 16,
+    /// 17) that refuses it.
+    pub fn with_registers(rack: Rack, records: &[Saved]) -> Result<Machine, u8> {
+        let mut machine = Machine::at_reset(rack)?;
+        let mut before = None;
+        for saved in records {
+            if let Some(number) = refuse::registers(&machine.rack, before, saved) {
+                return Err(number);
+            }
+            put(machine.part_mut(saved.node), 0, &saved.part);
+            before = Some(saved.node);
+        }
+        Ok(machine)
     }
 
     /// The rack with these images, or the number (6 to 12) that refuses them.

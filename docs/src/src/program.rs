@@ -4,9 +4,9 @@ use std::io::{self, Write};
 
 use crate::answer::Answer;
 use crate::check::check;
-use crate::file;
+use crate::file::{self, Contents};
 use crate::machine::Machine;
-use crate::rack::{Event, Rack, HOST};
+use crate::rack::{Event, HOST};
 use crate::route::{access_route, config_route, settle, Ending, Target};
 use crate::seats;
 use crate::windows::Address;
@@ -21,10 +21,12 @@ pub struct Run {
 }
 
 impl Run {
-    /// "the run starts as seat 0, which may write all"; from reset, or the number (6 to 10)
-    /// that refuses the rack.
-    pub fn at_reset(rack: Rack) -> Result<Run, u8> {
-        Ok(Run { machine: Machine::at_reset(rack)?, seat: seats::ALL })
+    /// "the run starts as seat 0, which may write all"; it "starts from these registers instead
+    /// of reset", those of the register records. Or the number (6 to 10, 16, 17) that refuses
+    /// what no file holds.
+    pub fn start(contents: &Contents) -> Result<Run, u8> {
+        let machine = Machine::with_registers(contents.rack.clone(), &contents.registers)?;
+        Ok(Run { machine, seat: seats::ALL })
     }
 
     /// Runs one event. "Event kind 10 (seat) says who acts from then on".
@@ -86,18 +88,18 @@ pub fn run_check(machine: &Machine) -> Answer {
     check(machine).map_or(Answer::Pass, Answer::Fault)
 }
 
-/// "reads a rack file ..., checks all of it, then runs it from reset." The lines go to
-/// `out`, each ended by one newline.
+/// "reads a rack file ..., checks all of it, then runs it from reset", or from the registers it
+/// holds. The lines go to `out`, each ended by one newline.
 pub fn run(bytes: &[u8], out: &mut impl Write) -> io::Result<()> {
-    let (rack, events) = match file::read(bytes) {
-        Ok(read) => read,
+    let contents = match file::read(bytes) {
+        Ok(contents) => contents,
         // "A refused input prints only `refused N at O`."
         Err(refused) => return writeln!(out, "{refused}"),
     };
-    // A rack that was read from a file has passed refusals 6 to 10.
-    if let Ok(mut run) = Run::at_reset(rack) {
+    // What was read from a file has passed refusals 6 to 10, 16 and 17.
+    if let Ok(mut run) = Run::start(&contents) {
         let mut checked = None;
-        for (number, event) in (1usize..).zip(&events) {
+        for (number, event) in (1usize..).zip(&contents.events) {
             let answer = match event {
                 Event::Check => check_again(&run.machine, &mut checked),
                 _ => run.step(event),

@@ -69,6 +69,15 @@ impl Node {
         self.options().is_some()
     }
 
+    /// The kind of the node's record. No record has a part of the options only.
+    pub fn kind(&self) -> u8 {
+        match &self.header {
+            Header::Bridge(Options::ALL) => 2,
+            Header::Bridge(_) => 13,
+            Header::Device(_) => 3,
+        }
+    }
+
     /// The options of the node, if it is a bridge.
     pub fn options(&self) -> Option<Options> {
         match &self.header {
@@ -92,6 +101,11 @@ pub struct Rack {
 }
 
 impl Rack {
+    /// First and last address of host memory, if there is any.
+    pub fn host_memory(&self) -> Option<(u64, u64)> {
+        (self.host_first <= self.host_last).then_some((self.host_first, self.host_last))
+    }
+
     /// The node of that number, if there is one.
     pub fn node(&self, number: u8) -> Option<&Node> {
         self.nodes.get(usize::from(number))

@@ -1,7 +1,8 @@
-//! "Refused, in this order": 6 to 15, of a decoded rack, images and a call's fields.
+//! "Refused, in this order": 6 to 17, of a decoded rack, images, a call's fields and register
+//! records.
 
 use crate::rack::{Event, Header, Node, Rack, Region, HOST, MOST_BRIDGES, MOST_DEVICES};
-use crate::registers;
+use crate::registers::{self, Saved};
 
 /// Refusals 6 to 10 of one node after `earlier` ones that are not refused.
 pub fn node(earlier: &[Node], node: &Node) -> Option<u8> {
@@ -175,5 +176,20 @@ pub fn seat_of_event(rack: &Rack, event: &Event) -> Option<u8> {
     match *event {
         Event::Seat { seat: named } => seat(rack, named),
         _ => None,
+    }
+}
+
+/// Refusals 16 and 17 of a register record that follows one of the node `before`, or none: "A
+/// register record whose node is missing or not above the one before is 16, and one that equals
+/// reset or changes a fixed bit is 17".
+pub fn registers(rack: &Rack, before: Option<u8>, saved: &Saved) -> Option<u8> {
+    let above = before.is_none_or(|before| saved.node > before);
+    match rack.node(saved.node).filter(|_| above) {
+        None => Some(16),
+        Some(node) => {
+            let fault = registers::equals_reset(node, &saved.part)
+                || registers::fixed_bit_differs(node, &saved.part);
+            fault.then_some(17)
+        }
     }
 }

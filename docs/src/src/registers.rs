@@ -18,6 +18,15 @@ pub struct Masks {
     pub reset: [u8; PART],
 }
 
+/// A register record: "Kind 11 holds a node and its 64 register bytes".
+#[derive(Clone, Copy, Debug, PartialEq, Eq)]
+pub struct Saved {
+    /// The node.
+    pub node: u8,
+    /// Its 64 bytes.
+    pub part: [u8; PART],
+}
+
 /// The masks and reset values of a node.
 pub fn masks(node: &Node) -> Masks {
     let mut masks = common_masks(node);
@@ -122,6 +131,11 @@ fn add_region(masks: &mut Masks, register: u8, region: &Region) {
 /// Bits e to 31.
 pub fn bits_from(exponent: u8) -> u32 {
     u32::MAX.checked_shl(u32::from(exponent)).unwrap_or(0)
+}
+
+/// Whether a node's 64 bytes are those of reset, status bits too.
+pub fn equals_reset(node: &Node, part: &[u8]) -> bool {
+    part == masks(node).reset
 }
 
 /// Refusal 12 for one node: "A fixed bit differs from its reset value."

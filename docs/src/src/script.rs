@@ -5,10 +5,11 @@ use std::io::{self, ErrorKind, Read, Write};
 use crate::answer::{Abort, Answer, Fault, Kind};
 use crate::arbiter::{self, State, Step};
 use crate::bytes::{u16_at, u32_at, u64_at, u8_at};
+use crate::calls::{self, Start};
+use crate::file;
 use crate::rack::Rack;
 use crate::seats::{Grant, Grants};
 use crate::windows::Ends;
-use crate::{calls, file};
 
 /// The bytes of a call before those of its rack.
 const HEAD: usize = 18;
@@ -16,6 +17,8 @@ const HEAD: usize = 18;
 const MOST_RACK: usize = 65_600;
 /// "count of bytes of the bridges' image, at most 4,160", and of the devices' image.
 const MOST_IMAGE: usize = 4_160;
+/// "the buffer's length, at most 16,384"
+const MOST_BUFFER: u32 = 16_384;
 
 /// "A decoded rack has always 5,585 rack bytes".
 const DECODED: usize = 5_585;
@@ -35,7 +38,7 @@ const PAIR: usize = 3;
 pub fn run(input: &mut impl Read, out: &mut impl Write) -> io::Result<()> {
     while let Some(mut call) = Call::read(input)? {
         match call.make() {
-            Some(result) => call.write(result, out)?,
+            Some(given) => call.write(given, out)?,
             None => break,
         }
     }
@@ -57,13 +60,22 @@ struct Call {
     devices: Vec<u8>,
 }
 
-/// What a call that is not refused gives, without both images.
+/// What a call gives, without both images.
 #[derive(Default)]
 struct Given {
+    /// "0, or the refusal's number"
+    number: u8,
     /// "eight numbers of 8 bytes"
     numbers: [u64; 8],
-    /// "the part that the view shows"
+    /// "that part" that the view shows; "of 13 and 14 the whole buffer as the call leaves it"
     part: Vec<u8>,
+}
+
+impl Given {
+    /// What a refusal gives: numbers "all 0"; of the part 01 says: "The view shows an empty part."
+    fn refused(number: u8) -> Given {
+        Given { number, ..Given::default() }
+    }
 }
 
 /// That many bytes of the input; none if there are fewer.
@@ -103,21 +115,22 @@ impl Call {
         }))
     }
 
-    /// What the call gives, or the refusal's number; none if this is no call.
-    fn make(&mut self) -> Option<Result<Given, u8>> {
+    /// What the call gives; none if this is no call.
+    fn make(&mut self) -> Option<Given> {
         match self.operation {
-            1..=7 => self.make_over_decoded_rack(),
-            8..=11 => self.make_over_bytes(),
+            1..=7 | 13 => self.make_over_decoded_rack(),
+            8..=11 | 14 | 15 => self.make_over_bytes(),
             12 => Some(self.make_without_rack()),
             _ => None,
         }
     }
 
     /// "Operations over a decoded rack".
-    fn make_over_decoded_rack(&mut self) -> Option<Result<Given, u8>> {
+    fn make_over_decoded_rack(&mut self) -> Option<Given> {
         let rack = &decoded(&self.rack)?;
         let (b, d) = (&mut self.bridges, &mut self.devices);
         let (node, named) = (self.node, self.named);
+        let (data, fill) = (self.data, self.enables);
         let result = match self.operation {
             // "read a register"
             1 => calls::register_read(rack, b, d, node, named)
@@ -138,50 +151,55 @@ impl Call {
             6 => calls::event(rack, b, d, node, &file::read_event(&self.event).ok()?).map(ending),
             // "check"
             7 => calls::check(rack, b, d).map(ending),
+            // "the file of the rack with these registers, into a lent buffer"
+            13 => return with_buffer(data, fill, |buffer| calls::save(rack, b, d, buffer)),
             _ => return None,
         };
-        Some(result)
+        Some(result.unwrap_or_else(Given::refused))
     }
 
     /// "Operations over rack bytes ... and event bytes ..., as the C calls take them".
-    fn make_over_bytes(&mut self) -> Option<Result<Given, u8>> {
-        let (b, d) = (&mut self.bridges, &mut self.devices);
+    fn make_over_bytes(&mut self) -> Option<Given> {
+        let (rack, b, d) = (&self.rack, &mut self.bridges, &mut self.devices);
+        let (data, fill) = (self.data, self.enables);
         let result = match self.operation {
             // "run of an event"
-            8 => calls::event_of_bytes(&self.rack, &self.event, b, d, self.node).map(ending),
+            8 => calls::event_of_bytes(rack, &self.event, b, d, self.node).map(ending),
             // "check"
-            9 => calls::check_of_bytes(&self.rack, b, d).map(ending),
+            9 => calls::check_of_bytes(rack, b, d).map(ending),
             // "reset of both images: refused by 1 to 10, then 11, then 14, never by 12"
-            10 => calls::reset_of_bytes(&self.rack, b, d).map(|()| numbers(&[])),
+            10 => calls::reset_of_bytes(rack, b, d).map(|()| numbers(&[])),
             // "both ends of a window or region"
-            11 => calls::ends_of_bytes(&self.rack, b, d, self.node, self.named).map(both_ends),
+            11 => calls::ends_of_bytes(rack, b, d, self.node, self.named).map(both_ends),
+            // "the file of the rack with these registers, into a lent buffer"
+            14 => {
+                return with_buffer(data, fill, |buffer| calls::save_of_bytes(rack, b, d, buffer))
+            }
+            // "the registers that a run of a file starts from, into both images; the rack's bytes
+            // are here a whole file"
+            15 => return Some(started(calls::start_of_file(rack, b, d))),
             _ => return None,
         };
-        Some(result)
+        Some(result.unwrap_or_else(Given::refused))
     }
 
     /// "An operation of both programs that has no rack": "one step of the arbiter".
-    fn make_without_rack(&self) -> Result<Given, u8> {
+    fn make_without_rack(&self) -> Given {
         // "node: the place that the high ring granted last; register: the member that the low
         // ring granted last"
         let state = State { high: self.node, low: self.named };
         // "data: its lower two bytes the mask, its upper two the request set"
         let (mask, requests) = (self.data as u16, (self.data >> 16) as u16);
-        arbiter::step(mask, state, requests).map(stepped)
+        arbiter::step(mask, state, requests).map_or_else(Given::refused, stepped)
     }
 
     /// "What a call gives", the images "as the call leaves them".
-    fn write(&self, result: Result<Given, u8>, out: &mut impl Write) -> io::Result<()> {
-        // "all 0 for a refusal"; of the part 01 says: "The view shows an empty part."
-        let (number, given) = match result {
-            Ok(given) => (0, given),
-            Err(number) => (number, Given::default()),
-        };
-        out.write_all(&[number])?;
+    fn write(&self, given: Given, out: &mut impl Write) -> io::Result<()> {
+        out.write_all(&[given.number])?;
         for value in given.numbers {
             out.write_all(&value.to_le_bytes())?;
         }
-        // A part has 64 bytes or none.
+        // A part has 64 bytes or none, a buffer at most 16,384.
         out.write_all(&(given.part.len() as u16).to_le_bytes())?;
         out.write_all(&given.part)?;
         out.write_all(&self.bridges)?;
@@ -232,6 +250,33 @@ fn grants(bytes: &[u8], count: usize) -> Option<Grants> {
         }
     }
     Some(grants)
+}
+
+/// A call that writes a file "into a lent buffer": "data: the buffer's length, at most 16,384;
+/// enables: the byte that fills the buffer before the call". It gives the buffer "as the call
+/// leaves it", refused or not; none if this is no call.
+fn with_buffer(
+    data: u32,
+    fill: u8,
+    save: impl FnOnce(&mut [u8]) -> Result<usize, u8>,
+) -> Option<Given> {
+    let length = usize::try_from(data).ok().filter(|_| data <= MOST_BUFFER)?;
+    let mut part = vec![fill; length];
+    // "the file's length"
+    let given = match save(&mut part) {
+        Ok(length) => numbers(&[length as u64]),
+        Err(number) => Given::refused(number),
+    };
+    Some(Given { part, ..given })
+}
+
+/// "how many bytes stand before the first record of kind 11 or event (all of them where there is
+/// none), the count of bridges, the count of devices. Where it is refused by 11 the two counts all
+/// the same, with 0 in front of them; all 0 for every other refusal."
+fn started(Start { records, bridges, devices }: Start) -> Given {
+    let front = records.unwrap_or(0);
+    let given = numbers(&[front, bridges, devices].map(|number| number as u64));
+    Given { number: records.err().unwrap_or(0), ..given }
 }
 
 /// These numbers, "the rest 0".

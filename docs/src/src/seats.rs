@@ -1,6 +1,6 @@
 //! Seats in the classroom: the grants of request E1. Text in quotes in this file is from that
-//! request. Grants belong to the rack and not to the tree of its nodes: claims, routes and the
-//! check never look at them.
+//! request, but for their order, which is from E2. Grants belong to the rack and not to the tree
+//! of its nodes: claims, routes and the check never look at them.
 
 use std::collections::BTreeMap;
 
@@ -43,6 +43,15 @@ impl Grants {
     /// Whether one of the records taken is 14.
     pub fn is_faulty(&self) -> bool {
         self.faulty
+    }
+
+    /// The grants "by seat then node".
+    pub fn all(&self) -> impl Iterator<Item = Grant> + '_ {
+        self.masks.iter().map(|((seat, node), mask)| Grant {
+            seat: *seat,
+            node: *node,
+            mask: *mask,
+        })
     }
 
     /// The mask of a seat and node, if a record names them together.

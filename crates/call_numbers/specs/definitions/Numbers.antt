@@ -8,6 +8,8 @@ use Rattle.event_run.specs.declared.Answer.{Answer}
 use Rattle.event_run.specs.definitions.Answers.{answerNumber, answerValues}
 use Rattle.arbiter.specs.declared.Arbitration.{Arbitration}
 use Rattle.arbiter.specs.declared.Arbitration.the-variants as arbitration
+use Rattle.call_table.specs.declared.Number.{Number}
+use Rattle.call_table.specs.declared.Number.the-variants as number
 use Rattle.call_table.specs.declared.Reply.{Reply}
 use Rattle.call_table.specs.declared.Reply.the-variants as reply
 use Rattle.call_table.specs.declared.RangeReply.{RangeReply}
@@ -32,6 +34,11 @@ codeOf (reply.Answered a) = 0
 abbrev pub replyNumbers : Reply → List ℕ
 replyNumbers (reply.Refused n) = zeros
 replyNumbers (reply.Answered a) = numbersOf a
+
+-- a number alone
+abbrev pub valueNumbers : Number → List ℕ
+valueNumbers (number.Refused n) = zeros
+valueNumbers (number.Value v) = eight v []
 
 -- both ends of a window or region: 1, the first and the last address; all 0 where it is empty
 abbrev pub endsCode : RangeReply → ℕ

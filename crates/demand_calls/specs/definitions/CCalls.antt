@@ -7,7 +7,8 @@ use Prim.Native.Nat.{ℕ, _≤_}
 use Rattle.register_image.specs.definitions.Image.{Images}
 use Rattle.register_image.specs.definitions.Fixed.{imageRefusal}
 use Rattle.file_record.specs.definitions.Load.{rackAlone}
-use Rattle.muzgante.specs.definitions.Called.{Called, refusedCall, rackRun}
+use Rattle.call_numbers.specs.definitions.Called.{Called, refusedCall}
+use Rattle.muzgante.specs.definitions.Called.{rackRun}
 use lib.ListN.{getD, length}
 use Rattle.call_numbers.specs.definitions.Numbers.{eight}
 use Rattle.file_record.specs.definitions.Events.{eventIn}

@@ -21,7 +21,8 @@ use Rattle.file_record.specs.definitions.Load.{rackAlone}
 use Rattle.event_run.specs.declared.Answer.the-variants.{Checked}
 use Rattle.call_table.specs.declared.Reply.the-variants.{Answered}
 use Rattle.call_numbers.specs.definitions.Numbers.{eight, numbersOf}
-use Rattle.muzgante.specs.definitions.Called.{Called, refusedCall, repliedCall, rackCheck}
+use Rattle.call_numbers.specs.definitions.Called.{Called, refusedCall}
+use Rattle.muzgante.specs.definitions.Called.{repliedCall, rackCheck}
 use Rattle.demand_calls.specs.laws.CRefusing.{check-refuses}
 use Rattle.demand_passed.specs.definitions.FirstFault.{FirstFault}
 use Rattle.demand_passed.specs.definitions.OneClaimant.{OneClaimant}

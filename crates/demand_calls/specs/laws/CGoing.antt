@@ -26,7 +26,8 @@ use Rattle.call_table.specs.declared.Reply.{Reply}
 use Rattle.call_table.specs.declared.Reply.the-variants as reply
 use Rattle.call_table.specs.definitions.Call.{eventRefusal, seatRefusal, ran, runIn, checkIn}
 use Rattle.call_numbers.specs.definitions.Numbers.{numbersOf, replyNumbers}
-use Rattle.muzgante.specs.definitions.Called.{Called, repliedCall, rackRun, rackCheck}
+use Rattle.call_numbers.specs.definitions.Called.{Called}
+use Rattle.muzgante.specs.definitions.Called.{repliedCall, rackRun, rackCheck}
 use Rattle.demand_calls.specs.laws.Refusing.{accepts}
 use Rattle.demand_calls.specs.laws.Checking.{check-passes, event-no-clash}
 use Rattle.demand_calls.specs.definitions.Events.{Fits, replyNumber, Goes, crossings, startBus}

@@ -17,7 +17,8 @@ use Rattle.file_record.specs.definitions.Events.{eventIn, eventBytes}
 use Rattle.file_record.specs.definitions.Load.{rackAlone}
 use Rattle.file_record.specs.laws.LoadLaws.{alone-stored}
 use Rattle.call_table.specs.definitions.Call.{runIn}
-use Rattle.muzgante.specs.definitions.Called.{refusedCall, repliedCall, rackRun, rackCheck}
+use Rattle.call_numbers.specs.definitions.Called.{refusedCall}
+use Rattle.muzgante.specs.definitions.Called.{repliedCall, rackRun, rackCheck}
 use Rattle.demand_calls.specs.laws.Later.{event-same}
 use Rattle.demand_calls.specs.definitions.Events.{WritesNone}
 use Rattle.demand_calls.specs.laws.CChecking.{c-check-passed}

@@ -26,7 +26,8 @@ use Rattle.call_table.specs.declared.RangeReply.{RangeReply}
 use Rattle.call_table.specs.declared.RangeReply.the-variants as range-reply
 use Rattle.call_table.specs.definitions.Call.{refusalBy, windowRefusal, eventRefusal, seatRefusal, runRefusal, ran, runIn, checkIn, endsIn}
 use Rattle.call_numbers.specs.definitions.Numbers.{zeros}
-use Rattle.muzgante.specs.definitions.Called.{Called, refusedCall, repliedCall, endsCall, rackRun, rackCheck, rackWindow, resetRefusal, rackReset}
+use Rattle.call_numbers.specs.definitions.Called.{Called, refusedCall}
+use Rattle.muzgante.specs.definitions.Called.{repliedCall, endsCall, rackRun, rackCheck, rackWindow, resetRefusal, rackReset}
 use Rattle.demand_calls.specs.laws.Refusing.{by-image, by-field, by-grants, by-seat, accepts, accepted}
 use Rattle.demand_calls.specs.definitions.CCalls.{InOrder}
 

@@ -1,11 +1,12 @@
 -- The three demands in the person's own words, and what is proved of each. The proofs are in specs/laws/Proved.antt.
 use mathlib.Core.Path.{_≡_}
 use mathlib.Core.Bool.{Bool, true, false, cond}
-use mathlib.Core.List.{List, [], _∷_}
+use mathlib.Core.List.{List, [], _∷_, _++_}
 use Prim.Native.Nat.{ℕ, _+_, _^_, _≤_, _<_}
 use lib.Dec.{eqb}
 use lib.ListN.{length, getD}
 use Rattle.rack.specs.declared.Rack.{Rack}
+use Rattle.rack.specs.definitions.Buffer.{overStart}
 use Rattle.rack.specs.definitions.Node.{regionIn}
 use Rattle.rack.specs.definitions.Tree.{Tree, depth, greatestDepth}
 use Rattle.rack.specs.definitions.Grow.{tree}
@@ -28,11 +29,16 @@ use Rattle.check_search.specs.definitions.Check.{check}
 use Rattle.file_record.specs.declared.Event.{Event}
 use Rattle.file_record.specs.definitions.Events.{eventIn, eventBytes}
 use Rattle.file_record.specs.definitions.Load.{readIn, fileIn, rackAlone}
+use Rattle.file_record.specs.definitions.Start.{startImages}
 use Rattle.file_laws.specs.definitions.Records.{Stands, FirstFaulty, Faultless, FaultySeat}
+use Rattle.file_save.specs.definitions.Saved.{savedFile}
+use Rattle.save_laws.specs.definitions.After.{Follows}
+use Rattle.save_laws.specs.definitions.Content.{SameContent}
+use Rattle.save_laws.specs.definitions.Listed.{seatRecords, registerNodes, namedPairs, changedNodes, NoRegisters}
 use Rattle.event_run.specs.declared.Answer.{Answer}
 use Rattle.event_run.specs.declared.Answer.the-variants.{Checked}
 use Rattle.event_run.specs.definitions.Run.{eventRun}
-use Rattle.print_file.specs.definitions.Output.{blank, eventsAt, firstAt, outputOf}
+use Rattle.print_file.specs.definitions.Output.{linesOf, blank, eventsAt, firstAt, outputOf}
 use Rattle.print_file.specs.definitions.Place.{endUpTo}
 use Rattle.call_table.specs.declared.Reply.the-variants as reply
 use Rattle.call_table.specs.declared.Number.the-variants as number
@@ -44,7 +50,10 @@ use Rattle.arbiter.specs.declared.Arbitration.the-variants as arbitration
 use Rattle.arbiter.specs.definitions.Arbiter as arbiter
 use Rattle.arbiter.specs.definitions.Arbiter.{step, answerOf, arbitrate, refusalOf}
 use Rattle.call_numbers.specs.definitions.Numbers.{eight, zeros, arbitrationNumbers}
-use Rattle.muzgante.specs.definitions.Called.{refusedCall, repliedCall, endsCall, rackRun, rackCheck, rackWindow, rackReset, rackGrant}
+use Rattle.call_numbers.specs.definitions.Called.{refusedCall}
+use Rattle.call_save.specs.definitions.Save.{saveIn, bufferIn}
+use Rattle.call_file.specs.definitions.Filed.{filed, rackSave, sizes, rackOpen}
+use Rattle.muzgante.specs.definitions.Called.{repliedCall, endsCall, rackRun, rackCheck, rackWindow, rackReset, rackGrant}
 use Rattle.demand_passed.specs.definitions.OneClaimant.{OneClaimant}
 use Rattle.demand_passed.specs.definitions.FirstFault.{FirstFault}
 use Rattle.demand_calls.specs.definitions.Events.{Fits, replyNumber, Goes, crossings, startBus, Act, AllWriteNone, afterAll, allBy, MayNotDrive, SpecialCycle, specialReply, DeniedWrite, deniedReply, WouldStore}
@@ -150,6 +159,43 @@ pub record Reset (b : List ℕ) (im : Images) : Type 0 where
   pub answers : rackAlone b .refusal ≡ 0 → lengthsWrong (rackAlone b .tree) im ≡ false → rackAlone b .grants .wrong ≡ false
       → rackReset b im ≡ record { code = 0; numbers = zeros; after = resetImages (rackAlone b .tree) im }
 
+-- 02, E2: the writer as an open call: 'a lent buffer too short for the writer's file is 11 too, tested after all others; a refusal leaves the
+-- buffer untouched, and a file that fits the bytes past it'. It answers the file's length, and no file is longer than 14,609 bytes
+pub record Save (rack : Rack) (im : Images) (old : List ℕ) : Type 0 where
+  pub refused : (refusalBy (tree rack) (grants rack) im 0 0 ≡ 0 → ⊥)
+      → (saveIn (tree rack) (grants rack) im (length old) ≡ number.Refused (refusalBy (tree rack) (grants rack) im 0 0))
+      × (bufferIn (tree rack) (grants rack) im old ≡ old)
+  pub short : refusalBy (tree rack) (grants rack) im 0 0 ≡ 0 → length old < length (savedFile (tree rack) (grants rack) im)
+      → (saveIn (tree rack) (grants rack) im (length old) ≡ number.Refused 11) × (bufferIn (tree rack) (grants rack) im old ≡ old)
+  pub answers : refusalBy (tree rack) (grants rack) im 0 0 ≡ 0 → length (savedFile (tree rack) (grants rack) im) ≤ length old
+      → (saveIn (tree rack) (grants rack) im (length old) ≡ number.Value (length (savedFile (tree rack) (grants rack) im)))
+      × (bufferIn (tree rack) (grants rack) im old ≡ overStart old (savedFile (tree rack) (grants rack) im))
+  pub most : refusalBy (tree rack) (grants rack) im 0 0 ≡ 0 → length (savedFile (tree rack) (grants rack) im) ≤ 14609
+
+-- rack_save from C: 1 to 10 of the rack's bytes come first
+pub record CSave (b : List ℕ) (im : Images) (old : List ℕ) : Type 0 where
+  pub by-rack : (rackAlone b .refusal ≡ 0 → ⊥) → rackSave b im old ≡ filed (rackAlone b .refusal) zeros old
+  pub refused : rackAlone b .refusal ≡ 0 → (refusalBy (rackAlone b .tree) (rackAlone b .grants) im 0 0 ≡ 0 → ⊥)
+      → rackSave b im old ≡ filed (refusalBy (rackAlone b .tree) (rackAlone b .grants) im 0 0) zeros old
+  pub short : rackAlone b .refusal ≡ 0 → refusalBy (rackAlone b .tree) (rackAlone b .grants) im 0 0 ≡ 0
+      → length old < length (savedFile (rackAlone b .tree) (rackAlone b .grants) im) → rackSave b im old ≡ filed 11 zeros old
+  pub answers : rackAlone b .refusal ≡ 0 → refusalBy (rackAlone b .tree) (rackAlone b .grants) im 0 0 ≡ 0
+      → length (savedFile (rackAlone b .tree) (rackAlone b .grants) im) ≤ length old
+      → rackSave b im old
+      ≡ filed 0 (eight (length (savedFile (rackAlone b .tree) (rackAlone b .grants) im)) [])
+      (overStart old (savedFile (rackAlone b .tree) (rackAlone b .grants) im))
+  pub most : refusalBy (rackAlone b .tree) (rackAlone b .grants) im 0 0 ≡ 0
+      → length (savedFile (rackAlone b .tree) (rackAlone b .grants) im) ≤ 14609
+
+-- rack_open from C: a whole file, refused as a file is, then 11, which tells both node counts all the same; its answer is how many bytes
+-- stand before the first register record or event, and both images are then what a run of the file starts from
+pub record COpen (b : List ℕ) (im : Images) : Type 0 where
+  pub by-file : (fileIn b .refusal ≡ 0 → ⊥) → rackOpen b im ≡ refusedCall (fileIn b .refusal) im
+  pub by-length : fileIn b .refusal ≡ 0 → lengthsWrong (fileIn b .tree) im ≡ true
+      → rackOpen b im ≡ record { code = 11; numbers = sizes 0 (fileIn b .tree); after = im }
+  pub answers : fileIn b .refusal ≡ 0 → lengthsWrong (fileIn b .tree) im ≡ false
+      → rackOpen b im ≡ record { code = 0; numbers = sizes (fileIn b .registers) (fileIn b .tree); after = startImages b im }
+
 -- 02, E14: a step of the arbiter, as an open call and from C. It has no image; 'A mask or request set with a bit above 9, or a state that
 -- names a place its ring lacks, is 20'
 pub record Grants (mask requests : ℕ) (s : State) : Type 0 where
@@ -188,6 +234,9 @@ pub record Demand1 : Type 0 where
       → InOrder b 0 im (call.windowRefusal (rackAlone b .tree) i k) 0
       (endsCall (range.Range (windowEnds (rackAlone b .tree) im i k)) im) (rackWindow b im i k)
   pub c-reset : (b : List ℕ) (im : Images) → Reset b im
+  pub saves : (rack : Rack) (im : Images) (old : List ℕ) → Save rack im old
+  pub c-saves : (b : List ℕ) (im : Images) (old : List ℕ) → CSave b im old
+  pub c-opens : (b : List ℕ) (im : Images) → COpen b im
   pub grants : (mask requests : ℕ) (s : State) → Grants mask requests s
   pub c-grants : (mask requests high low : ℕ) → CGrants mask requests high low
 
@@ -205,6 +254,7 @@ pub record Demand1 : Type 0 where
 --   register_image   image::view                    Image.view
 --                    image::write_node              Image.writeNode
 --                    image::status_node             Image.statusNode
+--                    set::set_node                  Image.setNode
 --                    reset::reset_images            Reset.resetImages
 --                    sizing::size_region            Sizing.sizeRegion
 --   claim_window     decode::windows_of             Window.windowsOf
@@ -219,14 +269,18 @@ pub record Demand1 : Type 0 where
 --                    route::route_access            Route.access
 --   check_sweep      buses::check_rack              Check.check
 --   file_load        load_file, load_alone          Load.fileIn, Load.rackAlone
+--   file_start       start_images                   Start.startFrom
+--   file_save        save::save                     Saved.savedFile
 --   event_run        run::answer_event              Run.eventRun
 --   print_file       fill::fill                     Filling.partOf
 --   call_open        read_register, write_register  Call.readIn, Call.storedIn
 --                    view, size_region              Call.viewIn, Call.sizeIn
 --                    window_ends                    Call.endsIn
 --                    run_event, run_check           Call.runIn, Call.checkIn
+--   call_save        save_rack                      Save.saveIn, Save.bufferIn
 --   muzgante         rack_run, rack_check           Called.rackRun, Called.rackCheck
 --                    rack_window, rack_reset        Called.rackWindow, Called.rackReset
+--                    rack_save, rack_open           Filed.rackSave, Filed.rackOpen
 
 -- 3. 'For every rack, whatever its registers hold, an accepted check passes exactly when the count of claimants is at most one on every
 -- bus, for each agent of that bus as driver and every memory and I/O address, and for the agent above it and each bus number 1 to 255.
@@ -363,10 +417,58 @@ pub record SeatsKeep : Type 0 where
       → Kept (rackAlone b .tree) (acting (rackAlone b .grants) seat) im (afterCalls b (c.allTold seat events) im)
 
 -- 02, E1: 'the run starts as seat 0, which may write all': seat 0 runs every event as before there were seats, and the output of an accepted
--- file whose rack has no seat record is what it was
+-- file whose rack has no seat record is what it was, from the registers that the file starts from (E2)
 pub record AsBefore : Type 0 where
   pub starts : (o : ℕ) → firstAt o .seat ≡ 0
   pub seat-0 : (t : Tree) (g : seating.Grants) (im : Images) (e : Event) → eventRun t (acting g 0) im e ≡ runBefore t im e
   pub prints : (b : List ℕ) → fileIn b .refusal ≡ 0 → fileIn b .grants ≡ noGrants
       → outputOf b
-      ≡ linesBefore (fileIn b .tree) 1 (resetImages (fileIn b .tree) (blank (fileIn b .tree))) (eventsAt b (fileIn b .offset))
+      ≡ linesBefore (fileIn b .tree) 1 (startImages b (blank (fileIn b .tree))) (eventsAt b (fileIn b .offset))
+
+-- 02, E2: the file of an accepted rack with its registers
+pub record OneFile (t : Tree) (g : seating.Grants) (im : Images) : Type 0 where
+  -- 'A rack read from the writer's file has the content of the rack it was given': the file is accepted and has no events; its tree, its
+  -- grants and the registers that a run starts from, whatever the lent images held, are those that were given
+  pub accepted : fileIn (savedFile t g im) .refusal ≡ 0
+  pub no-events : fileIn (savedFile t g im) .offset ≡ length (savedFile t g im)
+  pub most : length (savedFile t g im) ≤ 14609
+  pub tree : fileIn (savedFile t g im) .tree ≡ t
+  pub grants : fileIn (savedFile t g im) .grants ≡ g
+  pub registers : (old : Images) → lengthsWrong t old ≡ false → startImages (savedFile t g im) old ≡ im
+  -- 'seats by seat then node, and register records by node for exactly those nodes that differ from reset'
+  pub seats : seatRecords (savedFile t g im) ≡ namedPairs t g
+  pub nodes : registerNodes (savedFile t g im) ≡ changedNodes t im
+  -- 'The run then starts from these registers instead of reset, and so does every comparison of its output': nothing or events follow, and
+  -- the output is the lines of these events alone, run from the registers that were given
+  pub prints : (rest : List ℕ) → Follows rest → fileIn (savedFile t g im ++ rest) .refusal ≡ 0
+      → outputOf (savedFile t g im ++ rest) ≡ linesOf t (acting g 0) 1 im (eventsAt rest 0)
+
+-- 'two racks with equal content have the same file', and two racks with the same file have equal content
+pub record OneForm (a b : Rack) (im jm : Images) : Type 0 where
+  pub same-file : SameContent a b → im ≡ jm → savedFile (tree a) (grants a) im ≡ savedFile (tree b) (grants b) jm
+  pub same-content : savedFile (tree a) (grants a) im ≡ savedFile (tree b) (grants b) jm → SameContent a b × (im ≡ jm)
+
+-- the content of a C call's rack bytes is the tree and the grants that are read of them: there host memory that is none is 1 to 0, and
+-- grants are a set
+pub record COneForm (b c : List ℕ) (im jm : Images) : Type 0 where
+  pub same-file : rackAlone b .tree ≡ rackAlone c .tree → rackAlone b .grants ≡ rackAlone c .grants → im ≡ jm
+      → savedFile (rackAlone b .tree) (rackAlone b .grants) im ≡ savedFile (rackAlone c .tree) (rackAlone c .grants) jm
+  pub same-content : savedFile (rackAlone b .tree) (rackAlone b .grants) im ≡ savedFile (rackAlone c .tree) (rackAlone c .grants) jm
+      → (rackAlone b .tree ≡ rackAlone c .tree) × (rackAlone b .grants ≡ rackAlone c .grants) × (im ≡ jm)
+
+-- wherever save_rack or rack_save refuses nothing but a buffer that is too short
+pub record Saves : Type 0 where
+  pub files : (rack : Rack) (im : Images) → refusalBy (tree rack) (grants rack) im 0 0 ≡ 0 → OneFile (tree rack) (grants rack) im
+  pub c-files : (b : List ℕ) (im : Images) → rackAlone b .refusal ≡ 0
+      → refusalBy (rackAlone b .tree) (rackAlone b .grants) im 0 0 ≡ 0 → OneFile (rackAlone b .tree) (rackAlone b .grants) im
+  pub one-form : (a b : Rack) (im jm : Images) → refusalBy (tree a) (grants a) im 0 0 ≡ 0 → refusalBy (tree b) (grants b) jm 0 0 ≡ 0
+      → OneForm a b im jm
+  pub c-one-form : (b c : List ℕ) (im jm : Images) → rackAlone b .refusal ≡ 0 → rackAlone c .refusal ≡ 0
+      → refusalBy (rackAlone b .tree) (rackAlone b .grants) im 0 0 ≡ 0 → refusalBy (rackAlone c .tree) (rackAlone c .grants) jm 0 0 ≡ 0
+      → COneForm b c im jm
+  -- the run of a file without register records starts from reset, as before
+  pub from-reset : (b : List ℕ) → fileIn b .refusal ≡ 0 → NoRegisters b
+      → ((im : Images) → startImages b im ≡ resetImages (fileIn b .tree) im)
+      × (outputOf b
+      ≡ linesOf (fileIn b .tree) (acting (fileIn b .grants) 0) 1 (resetImages (fileIn b .tree) (blank (fileIn b .tree)))
+      (eventsAt b (fileIn b .offset)))

@@ -3,25 +3,39 @@ use mathlib.Core.Path.{_≡_, refl, ap}
 use mathlib.Core.Bool.{Bool, false}
 use mathlib.Core.List.{List}
 use Prim.Native.Nat.{ℕ}
+use native.Mathlib.Omega.{arith}
 use Rattle.rack.specs.declared.Rack.{Rack}
+use Rattle.rack.specs.definitions.Tree.{Tree}
 use Rattle.rack.specs.definitions.Grow.{tree}
 use Rattle.rack_laws.specs.laws.Refusals as refusals
 use Rattle.rack_laws.specs.laws.Stored.{accepted-stored}
 use Rattle.rack.specs.laws.Search.{none-all, found-at}
-use Rattle.seat.specs.definitions.Grants.{acting, namedMissing, grants}
+use Rattle.seat.specs.definitions.Grants.{Grants, acting, namedMissing, grants}
 use Rattle.seat_laws.specs.laws.Files.{run-kept}
 use Rattle.seat_laws.specs.laws.Before.{zero-before, output-before}
 use Rattle.register_image.specs.definitions.Image.{Images}
+use Rattle.register_image.specs.definitions.Fixed.{imageRefusal}
 use Rattle.check_search.specs.declared.Report.the-variants.{Pass}
-use Rattle.file_record.specs.definitions.Load.{Loading}
+use Rattle.file_record.specs.definitions.Load.{Loading, rackAlone}
 use Rattle.file_record.specs.laws.Turns.{read-over, read-empty}
 use Rattle.file_laws.specs.laws.Refused as file
 use Rattle.file_laws.specs.laws.Seats as seats
+use Rattle.file_save.specs.laws.Length.{saved-most}
+use Rattle.save_laws.specs.definitions.Said.{Savable}
+use Rattle.save_laws.specs.definitions.Content.{Sound}
+use Rattle.save_laws.specs.laws.ReadBack.{file-alone}
+use Rattle.save_laws.specs.laws.Start.{start-saved}
+use Rattle.save_laws.specs.laws.Decoded.{rack-savable}
+use Rattle.save_laws.specs.laws.Loaded.{alone-savable}
+use Rattle.save_laws.specs.laws.OneForm.{one-form}
+use Rattle.save_laws.specs.laws.Content.{content-file, file-content}
+use Rattle.save_laws.specs.laws.Listed.{seats-listed, nodes-listed}
+use Rattle.save_laws.specs.laws.Output.{output-back, none-registers, start-reset, output-reset}
 use Rattle.event_run.specs.declared.Answer.the-variants.{Checked}
 use Rattle.arbiter.specs.definitions.Arbiter.{step}
 use Rattle.arbiter.specs.laws.Answers.{is-refused, is-answered, no-refusal}
 use Rattle.call_table.specs.declared.Reply.the-variants as reply
-use Rattle.call_table.specs.definitions.Call.{checkIn}
+use Rattle.call_table.specs.definitions.Call.{refusalBy, checkIn}
 use Rattle.muzgante.specs.definitions.Called.{rackCheck}
 use Rattle.demand_calls.specs.laws.Refusing as refusing
 use Rattle.demand_calls.specs.laws.Sizing.{size-accepted}
@@ -30,6 +44,7 @@ use Rattle.demand_calls.specs.laws.Special.{event-special, event-arrives}
 use Rattle.demand_calls.specs.laws.Seats.{event-denied, event-stores, seat-keeps}
 use Rattle.demand_calls.specs.laws.CSeats.{c-run-denied, c-run-stores, c-seat-keeps}
 use Rattle.demand_calls.specs.laws.Checking as checking
+use Rattle.demand_calls.specs.laws.Saving as saving
 use Rattle.demand_calls.specs.laws.Decoded as decoded
 use Rattle.demand_calls.specs.laws.CRefusing as c-refusing
 use Rattle.demand_calls.specs.laws.CChecking as c-checking
@@ -38,7 +53,7 @@ use Rattle.demand_calls.specs.laws.CLater as c-later
 use Rattle.demand_calls.specs.laws.CSpecial as c-special
 use Rattle.demand_calls.specs.definitions.CCalls as c
 use Rattle.demands.specs.definitions.Demands as demands
-use Rattle.demands.specs.definitions.Demands.{Demand1, Demand3, SeatsKeep, AsBefore}
+use Rattle.demands.specs.definitions.Demands.{Demand1, Demand3, SeatsKeep, AsBefore, Saves}
 
 bytes : (whole : Bool) (b : List ℕ) → demands.Bytes whole b
 bytes whole b =
@@ -120,6 +135,27 @@ demand1 =
             by-grants = c-refusing.reset-by-grants b im;
             answers = c-refusing.reset-accepts b im;
           };
+      saves = λ rack im old.
+          record {
+            refused = saving.save-refused (tree rack) (grants rack) im old;
+            short = saving.save-short (tree rack) (grants rack) im old;
+            answers = saving.save-answers (tree rack) (grants rack) im old;
+            most = saving.save-most (tree rack) (grants rack) im;
+          };
+      c-saves = λ b im old.
+          record {
+            by-rack = saving.c-save-by-rack b im old;
+            refused = saving.c-save-refused b im old;
+            short = saving.c-save-short b im old;
+            answers = saving.c-save-answers b im old;
+            most = saving.save-most (rackAlone b .tree) (rackAlone b .grants) im;
+          };
+      c-opens = λ b im.
+          record {
+            by-file = saving.c-open-by-file b im;
+            by-length = saving.c-open-by-length b im;
+            answers = saving.c-open-answers b im;
+          };
       grants = λ mask requests s. record { refused = is-refused mask requests s; answers = is-answered mask requests s };
       c-grants = c-grants;
     }
@@ -187,3 +223,57 @@ seats-keep =
 pub as-before : AsBefore
 as-before =
     record { starts = λ o. refl; seat-0 = λ t g im e. zero-before t (acting g 0) refl im e; prints = λ b ok none. output-before b ok none }
+
+-- what can be saved has one file
+one-file : (t : Tree) (g : Grants) (im : Images) → Savable t g im → demands.OneFile t g im
+one-file t g im s =
+    let most = saved-most t g im (s .accepted) in
+    let e = file-alone t g im s (omega (arith, most)) in
+    record {
+      accepted = ap (λ (d : Loading). d .refusal) e;
+      no-events = ap (λ (d : Loading). d .offset) e;
+      most = most;
+      tree = ap (λ (d : Loading). d .tree) e;
+      grants = ap (λ (d : Loading). d .grants) e;
+      registers = λ old right. start-saved t g im s old right (omega (arith, most));
+      seats = seats-listed t g im s;
+      nodes = nodes-listed t g im s;
+      prints = output-back t g im s;
+    }
+
+-- a decoded rack without a refusal
+sound : (rack : Rack) (im : Images) → refusalBy (tree rack) (grants rack) im 0 0 ≡ 0 → Sound rack × (imageRefusal (tree rack) im ≡ 0)
+sound rack im z =
+    let a = refusing.accepted (tree rack) (grants rack) im 0 0 z in
+    (record { nodes = a .0; seats = a .3 }, a .1)
+
+-- and rack bytes
+c-savable : (b : List ℕ) (im : Images) → rackAlone b .refusal ≡ 0 → refusalBy (rackAlone b .tree) (rackAlone b .grants) im 0 0 ≡ 0
+    → Savable (rackAlone b .tree) (rackAlone b .grants) im
+c-savable b im ok z =
+    let a = refusing.accepted (rackAlone b .tree) (rackAlone b .grants) im 0 0 z in
+    alone-savable b im ok (a .3) (a .1)
+
+pub saves : Saves
+saves =
+    record {
+      files = λ rack im z.
+          let s = sound rack im z in
+          one-file (tree rack) (grants rack) im (rack-savable rack (s .0) im (s .1));
+      c-files = λ b im ok z. one-file (rackAlone b .tree) (rackAlone b .grants) im (c-savable b im ok z);
+      one-form = λ a b im jm z y.
+          let s = sound a im z in
+          let r = sound b jm y in
+          record {
+            same-file = content-file a b (s .0) (r .0) im jm;
+            same-content = file-content a b (s .0) (r .0) im jm (s .1) (r .1);
+          };
+      c-one-form = λ b c im jm ok fine z y.
+          record {
+            same-file = λ t g i. rw (t, g, i);
+            same-content =
+                one-form (rackAlone b .tree) (rackAlone c .tree) (rackAlone b .grants) (rackAlone c .grants) im jm (c-savable b im ok z)
+                (c-savable c jm fine y);
+          };
+      from-reset = λ b ok none. let e = none-registers b ok none in (start-reset b e, output-reset b e ok);
+    }

@@ -134,7 +134,7 @@ record-1 : (whole : Bool) (b : List ℕ) (s : Reading) → not-1 (recordFault wh
 unfolding recordFault shapeFault nodeFault nodeRefusal
 record-1 whole b s =
     first-1 (recordFaults whole b s) (
-      first-1 (shapeFaults whole b (classIn b (s .offset)) (s .offset) (s .events)) (search when-1),
+      first-1 (shapeFaults whole b (classIn b (s .offset)) (s .offset) (s .registers) (s .events)) (search when-1),
       (
         when-1 _ (isA class.Node (classIn b (s .offset)))
             (first-1 (nodeFaults (nodesWith (s .tree) (nodeIn b (s .offset))) (s .tree .count)) (search when-1)),
@@ -142,7 +142,13 @@ record-1 whole b s =
           when-1 _ (isA class.Event (classIn b (s .offset))) (search when-1),
           (
             when-1 _ (whole && isA class.Seat (classIn b (s .offset))) (search when-1),
-            (when-1 _ (isA class.Event (classIn b (s .offset))) (search when-1), tt),
+            (
+              when-1 _ (isA class.Event (classIn b (s .offset))) (search when-1),
+              (
+                when-1 _ (isA class.Registers (classIn b (s .offset))) (search when-1),
+                (when-1 _ (isA class.Registers (classIn b (s .offset))) (search when-1), tt),
+              ),
+            ),
           ),
         ),
       ),

@@ -1,7 +1,7 @@
 -- The events of an accepted file are accepted ones: from the first event on every record is an event, whose fields are right and which
 -- names no unknown seat, for the rack and the grants that were read.
 use mathlib.Core.Path.{_≡_, refl, sym, ap, _∙_}
-use mathlib.Core.Bool.{true, false, true≢false, false≢true}
+use mathlib.Core.Bool.{true, false, _&&_, _||_, and-false, true≢false, false≢true}
 use mathlib.Core.List.{List}
 use mathlib.Core.Logic.{_⊎_, inl, inr, ⊎-elim}
 use Prim.Native.Nat.{ℕ, zero, suc, _+_, _≤_, _<_}
@@ -16,9 +16,9 @@ use Rattle.rack_laws.specs.laws.First.{list-none-given}
 use Rattle.file_record.specs.declared.Class.{Class}
 use Rattle.file_record.specs.declared.Class.the-variants as class
 use Rattle.file_record.specs.definitions.Number.{byteIn}
-use Rattle.file_record.specs.definitions.Record.{sizeOf, classIn, isA, isKnown}
+use Rattle.file_record.specs.definitions.Record.{sizeOf, classIn, isA, isRack, isKnown}
 use Rattle.file_record.specs.definitions.Events.{eventIn, eventWrong, eventUnknown}
-use Rattle.file_record.specs.definitions.Load.{Reading, followsEvent, shapeFaults, shapeFault, recordFault, taken, Loading, fileIn}
+use Rattle.file_record.specs.definitions.Load.{Reading, followsLater, shapeFaults, shapeFault, recordFault, taken, Loading, fileIn}
 use Rattle.file_record.specs.laws.Steps.{is-a, shape-known}
 use Rattle.file_record.specs.laws.LoadLaws.{none-applies, first-host}
 use Rattle.file_laws.specs.definitions.Records.{before, Stands}
@@ -62,15 +62,17 @@ module _ (b : List ℕ) (s : Reading) where
         let c = classIn b (s .offset) in
         let shape = none-applies true b s z 0 (lit< tt) in
         let follows =
-        when-not 5 (followsEvent c (s .events)) (λ e. omega (arith, e))
-        (list-none-given (shapeFaults true b c (s .offset) (s .events)) shape 3 (lit< tt)) in
-        left c (shape-known true b c (s .offset) (s .events) shape) (rw (ne-eqb (s .events) 0 n) at follows)
+        when-not 5 (followsLater c (s .registers) (s .events)) (λ e. omega (arith, e))
+        (list-none-given (shapeFaults true b c (s .offset) (s .registers) (s .events)) shape 3 (lit< tt)) in
+        left c (shape-known true b c (s .offset) (s .registers) (s .events) shape)
+        (rw (ne-eqb (s .events) 0 n, and-false (eqb (s .registers) 0)) at follows)
       where
-        left : (c : Class) → isKnown true c ≡ true → followsEvent c 1 ≡ false → isA class.Event c ≡ true
+        left : (c : Class) → isKnown true c ≡ true → isRack c && true || isA class.Registers c && true ≡ false → isA class.Event c ≡ true
         left class.Unknown k f = absurd (false≢true k)
         left class.Host k f = absurd (true≢false f)
         left class.Node k f = absurd (true≢false f)
         left class.Seat k f = absurd (true≢false f)
+        left class.Registers k f = absurd (true≢false f)
         left class.Event k f = refl
 
     event-fields : atEvent b s → eventWrong (s .tree) (eventIn b (s .offset)) ≡ false

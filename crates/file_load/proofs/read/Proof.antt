@@ -45,6 +45,9 @@ loop-again c = search (left-step, needs)
 begin-requires : tie.Need-begin-requires Inv-loop μ-loop
 begin-requires c κs = search needs
 
+begin-requires-2 : tie.Need-begin-requires-2 Inv-loop μ-loop
+begin-requires-2 c κs = search needs
+
 returns-2 : tie.Need-returns-2 Inv-loop μ-loop
 returns-2 c = search (left-end, needs)
 
@@ -64,4 +67,5 @@ read-spec =
     loop-less
     loop-again
     begin-requires
+    begin-requires-2
     returns-2)

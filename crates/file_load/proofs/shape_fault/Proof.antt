@@ -25,8 +25,8 @@ returns-3 : tie.Need-returns-3
 unfolding shapeFault
 returns-3 c = search (chain-holds, chain-fails, needs)
 
-follows-event-requires : tie.Need-follows-event-requires
-follows-event-requires c κs = search needs
+follows-later-requires : tie.Need-follows-later-requires
+follows-later-requires c κs = search needs
 
 returns-4 : tie.Need-returns-4
 unfolding shapeFault
@@ -46,6 +46,6 @@ shape-fault-spec =
     returns-2
     host-wrong-requires
     returns-3
-    follows-event-requires
+    follows-later-requires
     returns-4
     returns-5)

@@ -1,4 +1,4 @@
-use Rattle.file_record.specs.laws.Steps.{class-told, host-left, shape-stops, node-goes, event-goes, seat-goes, host-goes}
+use Rattle.file_record.specs.laws.Steps.{class-told, host-left, registers-end, shape-stops, node-goes, event-goes, seat-goes, registers-goes, host-goes}
 use borrow.Author.Needs.{needs}
 use Rattle.file_load.proofs.step.Statement.{statement}
 use Rattle.file_load.proofs.step.Tie as tie
@@ -42,11 +42,20 @@ past-seat-requires c κs = search (class-told, needs)
 returns-4 : tie.Need-returns-4
 returns-4 c = search (seat-goes, needs)
 
+is-a-requires-4 : tie.Need-is-a-requires-4
+is-a-requires-4 c κs = search needs
+
+past-registers-requires : tie.Need-past-registers-requires
+past-registers-requires c κs = search (registers-end, class-told, needs)
+
+returns-5 : tie.Need-returns-5
+returns-5 c = search (registers-goes, needs)
+
 past-host-requires : tie.Need-past-host-requires
 past-host-requires c κs = search (host-left, needs)
 
-returns-5 : tie.Need-returns-5
-returns-5 c = search (host-goes, host-left, needs)
+returns-6 : tie.Need-returns-6
+returns-6 c = search (host-goes, host-left, needs)
 
 pub step-spec : {M : Type 1} → statement M
 step-spec =
@@ -65,5 +74,8 @@ step-spec =
     is-a-requires-3
     past-seat-requires
     returns-4
+    is-a-requires-4
+    past-registers-requires
+    returns-5
     past-host-requires
-    returns-5)
+    returns-6)

@@ -1,51 +1,53 @@
 -- The reading of rack records, one after another: a rack file, or the rack bytes of a C call.
 use Prim.Native.Nat.{ℕ, zero, suc, _+_}
-use mathlib.Core.Bool.{Bool, true, false, not, _&&_, cond}
+use mathlib.Core.Bool.{Bool, true, false, not, _&&_, _||_, cond}
 use mathlib.Core.List.{List, [], _∷_}
 use lib.Dec.{leb, ltb, eqb}
 use lib.ListN.{length}
 use Rattle.rack.specs.definitions.First.{_when_, _or_, first}
 use Rattle.rack.specs.definitions.Tree.{Tree}
-use Rattle.rack.specs.definitions.Grow.{noTree, nodesWith, grown}
+use Rattle.rack.specs.definitions.Grow.{noMemory, noTree, nodesWith, grown}
 use Rattle.rack.specs.definitions.Refusal.{nodeRefusal}
-use Rattle.rack.specs.declared.Range.{Range}
+use Rattle.rack.specs.declared.Node.{Node}
+use Rattle.register_image.specs.definitions.Reset.{isChanged}
+use Rattle.register_image.specs.definitions.Fixed.{partWrong}
 use Rattle.seat.specs.definitions.Grants.{Grants, noGrants, seatWrong, seated}
 use Rattle.file_record.specs.declared.Class.{Class}
 use Rattle.file_record.specs.declared.Class.the-variants as class
 use Rattle.file_record.specs.definitions.Number.{byteIn}
-use Rattle.file_record.specs.definitions.Record.{sizeOf, classIn, isA, isRack, isKnown, cutShort, hostIn, nodeIn, seatIn}
+use Rattle.file_record.specs.definitions.Record.{sizeOf, classIn, isA, isRack, isKnown, cutShort, hostIn, nodeIn, seatIn, registersIn}
 use Rattle.file_record.specs.definitions.Events.{eventIn, eventWrong, eventUnknown}
 
--- no host memory: 'first above last means none'
-abbrev pub noMemory : Range
-noMemory = record { first = 1; last = 0 }
-
--- what is known in front of a record: its offset, the offset at which the events begin (0 before the first), the rack and its
--- grants
+-- what is known in front of a record: its offset, the offsets at which the register records and the events begin (0 before the first of
+-- them), the least node that a register record may name, the rack and its grants
 pub record Reading : Type 0 where
   pub offset : ℕ
+  pub registers : ℕ
   pub events : ℕ
+  pub least : ℕ
   pub tree : Tree
   pub grants : Grants
 
 abbrev pub atStart : Reading
-atStart = record { offset = 0; events = 0; tree = noTree noMemory; grants = noGrants }
+atStart = record { offset = 0; registers = 0; events = 0; least = 0; tree = noTree noMemory; grants = noGrants }
 
 -- 4: 'the first is not a host, or a later one is'
 abbrev pub hostWrong : Class → ℕ → Bool
 hostWrong c o = cond (eqb o 0) (not (isA class.Host c)) (isA class.Host c)
 
--- 5: 'A rack record follows an event'; 02, E1: '5 covers kind 9'
-abbrev pub followsEvent : Class → ℕ → Bool
-followsEvent c events = isRack c && not (eqb events 0)
+-- 5: 'A rack record follows an event'; 02, E1: '5 covers kind 9'; E2: '5 also covers a register record after an event and any other rack
+-- record after a register record'
+abbrev pub followsLater : Class → ℕ → ℕ → Bool
+followsLater c registers events =
+    isRack c && not (eqb registers 0 && eqb events 0) || isA class.Registers c && not (eqb events 0)
 
 -- 2 to 5, of a record's kind, length and place; `whole` says whether these are records of a whole file, or the rack bytes of a C call
-abbrev pub shapeFaults : Bool → List ℕ → Class → ℕ → ℕ → List ℕ
-shapeFaults whole b c o events =
-    2 when not (isKnown whole c) ∷ 3 when cutShort b o ∷ 4 when hostWrong c o ∷ 5 when followsEvent c events ∷ []
+abbrev pub shapeFaults : Bool → List ℕ → Class → ℕ → ℕ → ℕ → List ℕ
+shapeFaults whole b c o registers events =
+    2 when not (isKnown whole c) ∷ 3 when cutShort b o ∷ 4 when hostWrong c o ∷ 5 when followsLater c registers events ∷ []
 
-unfoldable pub shapeFault : Bool → List ℕ → Class → ℕ → ℕ → ℕ
-shapeFault whole b c o events = first (shapeFaults whole b c o events)
+unfoldable pub shapeFault : Bool → List ℕ → Class → ℕ → ℕ → ℕ → ℕ
+shapeFault whole b c o registers events = first (shapeFaults whole b c o registers events)
 
 -- 6 to 10, of a node after those before it
 unfoldable pub nodeFault : List ℕ → ℕ → Tree → ℕ
@@ -70,15 +72,35 @@ unknownFault b o g = 15 when eventUnknown g (eventIn b o)
 abbrev pub eventFault : List ℕ → ℕ → Tree → Grants → ℕ
 eventFault b o t g = fieldFault b o t or unknownFault b o g
 
--- 01, 'Refused, in this order', of a record; 02, E1: 'both after 13'. A faulty seat record stops a whole file; in the rack bytes of a C
--- call, where 14 comes after refusals that are found later, it is noted
+-- 16, of a register record: 'whose node is missing or not above the one before'
+abbrev pub misplaced : List ℕ → ℕ → Tree → ℕ → Bool
+misplaced b o t least = leb (t .count) (byteIn b (o + 1)) || ltb (byteIn b (o + 1)) least
+
+abbrev pub placeFault : List ℕ → ℕ → Tree → ℕ → ℕ
+placeFault b o t least = 16 when misplaced b o t least
+
+-- 17: 'one that equals reset or changes a fixed bit'
+abbrev pub unsound : Node → List ℕ → Bool
+unsound n part = not (isChanged n part) || partWrong n part
+
+abbrev pub valueFault : List ℕ → ℕ → Tree → ℕ
+valueFault b o t = 17 when unsound (t .node (byteIn b (o + 1))) (registersIn b o)
+
+-- both of a register record
+abbrev pub registerFault : List ℕ → ℕ → Tree → ℕ → ℕ
+registerFault b o t least = placeFault b o t least or valueFault b o t
+
+-- 01, 'Refused, in this order', of a record; 02, E1: 'both after 13'; E2: 16 and 17 'after 15'. A faulty seat record stops a whole file;
+-- in the rack bytes of a C call, where 14 comes after refusals that are found later, it is noted
 abbrev pub recordFaults : Bool → List ℕ → Reading → List ℕ
 recordFaults whole b s =
-    shapeFault whole b (classIn b (s .offset)) (s .offset) (s .events)
+    shapeFault whole b (classIn b (s .offset)) (s .offset) (s .registers) (s .events)
     ∷ nodeFault b (s .offset) (s .tree) when isA class.Node (classIn b (s .offset))
     ∷ fieldFault b (s .offset) (s .tree) when isA class.Event (classIn b (s .offset))
     ∷ seatFault b (s .offset) (s .tree) (s .grants) when (whole && isA class.Seat (classIn b (s .offset)))
-    ∷ unknownFault b (s .offset) (s .grants) when isA class.Event (classIn b (s .offset)) ∷ []
+    ∷ unknownFault b (s .offset) (s .grants) when isA class.Event (classIn b (s .offset))
+    ∷ placeFault b (s .offset) (s .tree) (s .least) when isA class.Registers (classIn b (s .offset))
+    ∷ valueFault b (s .offset) (s .tree) when isA class.Registers (classIn b (s .offset)) ∷ []
 
 -- the first number that applies, 0 where none does
 unfoldable pub recordFault : Bool → List ℕ → Reading → ℕ
@@ -89,7 +111,9 @@ unfoldable pub taken : List ℕ → Reading → Reading
 taken b s =
     record {
       offset = s .offset + sizeOf (byteIn b (s .offset));
+      registers = cond (isA class.Registers (classIn b (s .offset))) (s .registers or s .offset) (s .registers);
       events = cond (isA class.Event (classIn b (s .offset))) (s .events or s .offset) (s .events);
+      least = cond (isA class.Registers (classIn b (s .offset))) (byteIn b (s .offset + 1) + 1) (s .least);
       tree =
           cond (isA class.Host (classIn b (s .offset))) (noTree (hostIn b (s .offset)))
           (cond (isA class.Node (classIn b (s .offset))) (grown (s .tree) (nodeIn b (s .offset))) (s .tree));
@@ -97,18 +121,27 @@ taken b s =
           cond (isA class.Seat (classIn b (s .offset))) (seated (s .tree .count) (s .grants) (seatIn b (s .offset))) (s .grants);
     }
 
--- a refusal and its offset; or 0, the offset at which the events begin or, without events, the records end, the rack and its grants
+-- a refusal and its offset; or 0, the offset at which the events begin or, without events, the records end, that at which the register
+-- records begin or, without them, the events, the rack and its grants
 pub record Loading : Type 0 where
   pub refusal : ℕ
   pub offset : ℕ
+  pub registers : ℕ
   pub tree : Tree
   pub grants : Grants
 
 abbrev pub loaded : Reading → Loading
-loaded s = record { refusal = 0; offset = s .events or s .offset; tree = s .tree; grants = s .grants }
+loaded s =
+    record {
+      refusal = 0;
+      offset = s .events or s .offset;
+      registers = s .registers or s .events or s .offset;
+      tree = s .tree;
+      grants = s .grants;
+    }
 
 abbrev pub refused : ℕ → ℕ → Loading
-refused n o = record { refusal = n; offset = o; tree = noTree noMemory; grants = noGrants }
+refused n o = record { refusal = n; offset = o; registers = 0; tree = noTree noMemory; grants = noGrants }
 
 -- 01: 'A file stops at its first faulty record, with the record's offset': at most `left` records
 unfoldable pub readFrom : ℕ → Bool → List ℕ → Reading → Loading

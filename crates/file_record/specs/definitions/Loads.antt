@@ -10,7 +10,8 @@ use Rattle.file_record.specs.definitions.Load.{Reading, Loading}
 
 -- the reading that a walk has come to, with the tables of its rack and of the rack's grants
 abbrev pub readingOf : Walk → List ℕ → List ℕ → Reading
-readingOf w table grants = record { offset = w .offset; events = w .events; tree = treeOf table; grants = grantsOf grants }
+readingOf w table grants =
+    record { offset = w .offset; registers = w .registers; events = w .events; least = w .least; tree = treeOf table; grants = grantsOf grants }
 
 -- a step past a record: its fault; where there is none, the reading after it
 pub record Steps (r : Walk) (table grants : List ℕ) (fault : ℕ) (next : Reading) : Type 0 where
@@ -21,5 +22,6 @@ pub record Steps (r : Walk) (table grants : List ℕ) (fault : ℕ) (next : Read
 pub record Loads (r : Loaded) (d : Loading) : Type 0 where
   pub refusal : r .refusal ≡ d .refusal
   pub offset : r .offset ≡ d .offset
+  pub registers : d .refusal ≡ 0 → r .registers ≡ d .registers
   pub tree : d .refusal ≡ 0 → treeOf (r .table) ≡ d .tree
   pub grants : d .refusal ≡ 0 → grantsOf (r .grants) ≡ d .grants

@@ -3,7 +3,7 @@ use Prim.Native.Nat.{ℕ, _+_}
 use mathlib.Core.Bool.{Bool, _&&_, _||_, cond}
 use mathlib.Core.List.{List, [], _∷_}
 use lib.Dec.{ltb, eqb}
-use lib.ListN.{length, getD}
+use lib.ListN.{length, getD, take, drop}
 use Rattle.rack.specs.declared.Kind.{Kind}
 use Rattle.rack.specs.declared.Region.{Region}
 use Rattle.rack.specs.declared.Node.{Node}
@@ -27,12 +27,13 @@ noForm = form class.Unknown 0
 
 -- 01: '1 host (16 bytes)', '2 bridge (6)', '3 device (12)', '4 configuration write (8)', '5 configuration read (3)', '6 memory
 -- access (10)', '7 I/O access (6)', '8 check (0)'; 'Kinds 1 to 3 are rack records, 4 to 8 events'. 02, E11: 'Kind 13 has kind 2's body'; E1: 'A seat
--- record (kind 9: seat, node, two-byte mask ..) stands among the rack records', 'Event kind 10 (seat)'
+-- record (kind 9: seat, node, two-byte mask ..) stands among the rack records', 'Event kind 10 (seat)'; E2: 'Kind 11 holds a node and its 64
+-- register bytes'
 abbrev pub forms : List Form
 forms =
     noForm ∷ form class.Host 16 ∷ form class.Node 6 ∷ form class.Node 12 ∷ form class.Event 8 ∷ form class.Event 3
-    ∷ form class.Event 10 ∷ form class.Event 6 ∷ form class.Event 0 ∷ form class.Seat 4 ∷ form class.Event 1 ∷ noForm ∷ noForm
-    ∷ form class.Node 6 ∷ []
+    ∷ form class.Event 10 ∷ form class.Event 6 ∷ form class.Event 0 ∷ form class.Seat 4 ∷ form class.Event 1
+    ∷ form class.Registers 65 ∷ noForm ∷ form class.Node 6 ∷ []
 
 unfoldable pub formOf : ℕ → Form
 formOf kind = getD forms kind noForm
@@ -50,18 +51,21 @@ classNumber class.Unknown = 0
 classNumber class.Host = 1
 classNumber class.Node = 2
 classNumber class.Seat = 3
-classNumber class.Event = 4
+classNumber class.Registers = 4
+classNumber class.Event = 5
 
 abbrev pub isA : Class → Class → Bool
 isA k c = eqb (classNumber k) (classNumber c)
 
+-- a record of the rack itself: host, node or seat. Register records 'stand after all other rack records'
 abbrev pub isRack : Class → Bool
 isRack c = (isA class.Host c || isA class.Node c) || isA class.Seat c
 
--- 2: 'The kind is not 1 to 8'; 02, E11: 'Kind 13 becomes known to refusal 2'; E1: 'Kinds 9 and 10 become known to refusal 2'; in the rack
--- records of a C call, which are no whole file, 'an event kind there being 2'
+-- 2: 'The kind is not 1 to 8'; 02, E11: 'Kind 13 becomes known to refusal 2'; E1: 'Kinds 9 and 10 become known to refusal 2'; E2: 'Kind 11
+-- becomes known'. In the rack records of a C call, which are no whole file, 'an event kind there being 2', and 'In a C call's rack bytes kind 11
+-- is 2'
 abbrev pub isKnown : Bool → Class → Bool
-isKnown whole c = isRack c || (whole && isA class.Event c)
+isKnown whole c = isRack c || (whole && (isA class.Registers c || isA class.Event c))
 
 -- 3: 'The body is cut short'
 unfoldable pub cutShort : List ℕ → ℕ → Bool
@@ -98,3 +102,7 @@ nodeIn b o =
 -- 02, E1: 'kind 9: seat, node, two-byte mask'
 abbrev pub seatIn : List ℕ → ℕ → SeatRecord
 seatIn b o = record { seat = byteIn b (o + 1); node = byteIn b (o + 2); mask = wordIn b (o + 3) }
+
+-- 02, E2: 'Kind 11 holds a node and its 64 register bytes': those of the record at an offset
+abbrev pub registersIn : List ℕ → ℕ → List ℕ
+registersIn b o = take 64 (drop (o + 2) b)

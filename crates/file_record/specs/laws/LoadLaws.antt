@@ -1,7 +1,7 @@
 -- A rack that is read is accepted and stores what its nodes say, its file has at most 65,536 bytes, its events begin within
 -- the file, and its host memory is the first record's.
 use mathlib.Core.Path.{_≡_, refl}
-use mathlib.Core.Bool.{Bool, true, false}
+use mathlib.Core.Bool.{Bool, true, false, cond}
 use mathlib.Core.List.{List}
 use Prim.Native.Nat.{ℕ, _+_, _≤_, _<_}
 use native.Mathlib.Omega.{arith}
@@ -12,7 +12,7 @@ use borrow.Author.Tests.{not-false, ltb-true, ltb-false, eqb-true, eqb-false, eq
 use Rattle.rack.specs.laws.Bools.{tested}
 use Rattle.rack.specs.definitions.First.{_or_}
 use Rattle.rack.specs.definitions.Stored.{Stored}
-use Rattle.rack.specs.definitions.Grow.{grown}
+use Rattle.rack.specs.definitions.Grow.{noMemory, memoryOf, grown}
 use Rattle.rack.specs.definitions.Refusal.{rackRefusal}
 use Rattle.rack_laws.specs.laws.First.{at, list-none-given}
 use Rattle.rack_laws.specs.laws.OnePass.{StoredBy, none-stored, grown-stored}
@@ -22,13 +22,13 @@ use Rattle.file_record.specs.declared.Class.the-variants as class
 use Rattle.file_record.specs.definitions.Number.{byteIn}
 use Rattle.file_record.specs.definitions.Record.{sizeOf, classIn, isA, hostIn, nodeIn}
 use Rattle.file_record.specs.laws.RecordLaws.{host-size}
-use Rattle.file_record.specs.definitions.Load.{noMemory, Reading, nodeFault, recordFaults, recordFault, taken, readIn, fileIn, rackAlone}
+use Rattle.file_record.specs.definitions.Load.{Reading, nodeFault, recordFaults, recordFault, taken, readIn, fileIn, rackAlone}
 use Rattle.file_record.specs.laws.Steps.{shape-ends, shape-host}
 use Rattle.file_record.specs.laws.Turns.{read-over, read-empty, in-has}
 
 -- a record without a fault
 module _ (whole : Bool) (b : List ℕ) (s : Reading) where
-  pub none-applies : recordFault whole b s ≡ 0 → (k : ℕ) → k < 5 → at (recordFaults whole b s) k ≡ 0
+  pub none-applies : recordFault whole b s ≡ 0 → (k : ℕ) → k < 7 → at (recordFaults whole b s) k ≡ 0
   unfolding recordFault
   none-applies z = list-none-given (recordFaults whole b s) z
 
@@ -38,7 +38,7 @@ module _ (whole : Bool) (b : List ℕ) (s : Reading) where
   -- ends within the file, and leaves an accepted rack
   pub taken-inside : recordFault whole b s ≡ 0 → taken b s .offset ≤ length b
   unfolding taken
-  taken-inside z = shape-ends whole b (classIn b (s .offset)) (s .offset) (s .events) (none-applies z 0 (lit< tt))
+  taken-inside z = shape-ends whole b (classIn b (s .offset)) (s .offset) (s .registers) (s .events) (none-applies z 0 (lit< tt))
 
   pub taken-accepted : rackRefusal (s .tree) ≡ 0 → recordFault whole b s ≡ 0 → rackRefusal (taken b s .tree) ≡ 0
   unfolding taken nodeFault
@@ -58,17 +58,17 @@ module _ (whole : Bool) (b : List ℕ) (s : Reading) where
   -- the first record is a host, and none after it is
   pub first-host : recordFault whole b s ≡ 0 → s .offset ≡ 0 → isA class.Host (classIn b (s .offset)) ≡ true
   first-host z e =
-      let h = shape-host whole b (classIn b (s .offset)) (s .offset) (s .events) (none-applies z 0 (lit< tt)) in
+      let h = shape-host whole b (classIn b (s .offset)) (s .offset) (s .registers) (s .events) (none-applies z 0 (lit< tt)) in
       not-false (isA class.Host (classIn b (s .offset))) (rw (eq-eqb (s .offset) 0 e) at h)
 
   later-host : recordFault whole b s ≡ 0 → (s .offset ≡ 0 → ⊥) → isA class.Host (classIn b (s .offset)) ≡ false
   later-host z e =
-      let h = shape-host whole b (classIn b (s .offset)) (s .offset) (s .events) (none-applies z 0 (lit< tt)) in
+      let h = shape-host whole b (classIn b (s .offset)) (s .offset) (s .registers) (s .events) (none-applies z 0 (lit< tt)) in
       rw (ne-eqb (s .offset) 0 e) at h
 
   -- so after it host memory is the first record's
-  taken-host : (0 < s .offset → s .tree .hostMemory ≡ hostIn b 0) → recordFault whole b s ≡ 0
-      → taken b s .tree .hostMemory ≡ hostIn b 0
+  taken-host : (0 < s .offset → s .tree .hostMemory ≡ memoryOf (hostIn b 0)) → recordFault whole b s ≡ 0
+      → taken b s .tree .hostMemory ≡ memoryOf (hostIn b 0)
   unfolding taken grown
   taken-host p z =
       tested (eqb (s .offset) 0)
@@ -109,7 +109,44 @@ module _ (whole : Bool) (b : List ℕ) (s : Reading) (p : Within b s) (z : recor
   taken-within =
       record { inside = taken-inside whole b s z; here = inr (taken-behind whole b s (p .here) z); events = events-within }
 
+-- records of each class begin within what has been read
+or-most : (n m : ℕ) {k : ℕ} → n ≤ k → m ≤ k → n or m ≤ k
+or-most n m h l = tested (eqb n 0) (λ q. rw q l) (λ q. rw q h)
+
+record Begun (b : List ℕ) (s : Reading) : Type 0 where
+  inside : s .offset ≤ length b
+  registers : s .registers ≤ s .offset
+  events : s .events ≤ s .offset
+
+taken-begun : (whole : Bool) (b : List ℕ) (s : Reading) → Begun b s → recordFault whole b s ≡ 0 → Begun b (taken b s)
+unfolding taken
+taken-begun whole b s p z =
+    record {
+      inside = taken-inside whole b s z;
+      registers = later (s .registers) (isA class.Registers (classIn b (s .offset))) (p .registers);
+      events = later (s .events) (isA class.Event (classIn b (s .offset))) (p .events);
+    }
+  where
+    later : (n : ℕ) (is : Bool) → n ≤ s .offset → cond is (n or s .offset) n ≤ s .offset + sizeOf (byteIn b (s .offset))
+    later n true h = or-most n (s .offset) (omega arith) (omega arith)
+    later n false h = omega arith
+
 module _ (whole : Bool) (b : List ℕ) where
+  -- what is read begins its register records and its events within the file
+  pub read-begun : readIn whole b .refusal ≡ 0 → (readIn whole b .registers ≤ length b) × (readIn whole b .offset ≤ length b)
+  read-begun =
+      in-has whole b (Begun b) (λ d. d .refusal ≡ 0 → (d .registers ≤ length b) × (d .offset ≤ length b))
+      (λ s p i z. taken-begun whole b s p z) (λ s p e q. ended s p) (λ s p i z q. absurd (z q))
+      (λ h e. record { inside = omega arith; registers = omega arith; events = omega arith }) (λ h q. absurd (omega (arith, q)))
+      (λ e q. absurd (omega (arith, q)))
+    where
+      ended : (s : Reading) → Begun b s → (s .registers or s .events or s .offset ≤ length b) × (s .events or s .offset ≤ length b)
+      ended s p =
+          let r : s .registers ≤ length b = omega (arith, p .registers, p .inside) in
+          let e : s .events ≤ length b = omega (arith, p .events, p .inside) in
+          let o = or-most (s .events) (s .offset) e (p .inside) in
+          (or-most (s .registers) (s .events or s .offset) r o, o)
+
   pub read-accepted : readIn whole b .refusal ≡ 0 → rackRefusal (readIn whole b .tree) ≡ 0
   read-accepted =
       in-has whole b (λ s. rackRefusal (s .tree) ≡ 0) (λ d. d .refusal ≡ 0 → rackRefusal (d .tree) ≡ 0)
@@ -150,10 +187,10 @@ module _ (whole : Bool) (b : List ℕ) where
           (λ o. rw (ne-eqb (s .events) 0 (λ q. omega (arith, o .0))) (omega (arith, o .1, p .inside))) (p .events)
 
   -- its host memory is the first record's
-  pub read-host : readIn whole b .refusal ≡ 0 → readIn whole b .tree .hostMemory ≡ hostIn b 0
+  pub read-host : readIn whole b .refusal ≡ 0 → readIn whole b .tree .hostMemory ≡ memoryOf (hostIn b 0)
   read-host z =
-      in-has whole b (λ s. (0 < s .offset → s .tree .hostMemory ≡ hostIn b 0) × (length b ≡ 0 → ⊥))
-      (λ d. (length b ≡ 0 → ⊥) → d .refusal ≡ 0 → d .tree .hostMemory ≡ hostIn b 0)
+      in-has whole b (λ s. (0 < s .offset → s .tree .hostMemory ≡ memoryOf (hostIn b 0)) × (length b ≡ 0 → ⊥))
+      (λ d. (length b ≡ 0 → ⊥) → d .refusal ≡ 0 → d .tree .hostMemory ≡ memoryOf (hostIn b 0))
       (λ s p i f. (λ h. taken-host whole b s (p .0) f, p .1)) (λ s p e n q. p .0 (omega (arith, n))) (λ s p i f n q. absurd (f q))
       (λ h e. (λ q. absurd (omega arith), e)) (λ h n q. absurd (omega (arith, q))) (λ e n. absurd (n e)) (read-some z) z
 
@@ -173,6 +210,10 @@ module _ (b : List ℕ) where
 
   pub file-long : fileIn b .refusal ≡ 0 → length b ≤ 65536
   file-long = read-long true b
+
+  -- its register records and its events begin within it
+  pub file-begun : fileIn b .refusal ≡ 0 → (fileIn b .registers ≤ length b) × (fileIn b .offset ≤ length b)
+  file-begun = read-begun true b
 
   -- the offset of a refusal, and the offset at which an accepted file's events begin
   pub file-offset : fileIn b .offset ≤ 65536

@@ -7,14 +7,14 @@ use native.Mathlib.Omega.{arith}
 use lib.ListN.{length}
 use Rattle.rack.specs.definitions.First.{_or_}
 use Rattle.rack.specs.definitions.Table.{treeOf}
-use Rattle.rack.specs.definitions.Grow.{noTree}
+use Rattle.rack.specs.definitions.Grow.{noMemory, noTree}
 use Rattle.rack.specs.definitions.Refusal.{rackRefusal}
 use Rattle.seat.specs.definitions.Grants.{noGrants}
 use Rattle.seat.specs.definitions.Table.{grantsOf}
 use Rattle.rack_laws.specs.laws.Grown.{none-accepted}
 use Rattle.file_record.specs.declared.Loaded.{Loaded}
 use Rattle.file_record.specs.declared.Walk.{Walk}
-use Rattle.file_record.specs.definitions.Load.{noMemory, Reading, atStart, recordFault, taken, Loading, refused, readFrom, readIn}
+use Rattle.file_record.specs.definitions.Load.{Reading, atStart, recordFault, taken, Loading, refused, readFrom, readIn}
 use Rattle.file_record.specs.definitions.Loads.{readingOf, Steps, Loads}
 use Rattle.file_record.specs.laws.Turns.{read-past, read-stop, read-step, taken-later, read-over, read-empty, read-all}
 use Rattle.file_record.specs.laws.LoadLaws.{taken-accepted, taken-inside}
@@ -22,7 +22,7 @@ use Rattle.file_record.specs.laws.LoadLaws.{taken-accepted, taken-inside
 -- a refusal
 pub loads-refused : {r : Loaded} {d : Loading} {n o : ℕ} → d ≡ refused n o → (n ≡ 0 → ⊥) → (r .refusal ≡ n) × (r .offset ≡ o) → Loads r d
 loads-refused e z p =
-    rw e (record { refusal = p .0; offset = p .1; tree = λ q. absurd (z q); grants = λ q. absurd (z q) })
+    rw e (record { refusal = p .0; offset = p .1; registers = λ q. absurd (z q); tree = λ q. absurd (z q); grants = λ q. absurd (z q) })
 
 module _ (whole : Bool) (b : List ℕ) where
   -- the records are what is left to read from a reading on, whose rack is accepted
@@ -34,9 +34,9 @@ module _ (whole : Bool) (b : List ℕ) where
     pub accepted : rackRefusal (s .tree) ≡ 0
 
   pub left-start : (w : Walk) (table grants : List ℕ) → treeOf table ≡ noTree noMemory → grantsOf grants ≡ noGrants
-      → (w .offset ≡ 0) × (w .events ≡ 0) → Left (readingOf w table grants)
+      → (w .offset ≡ 0) × (w .registers ≡ 0) × (w .events ≡ 0) × (w .least ≡ 0) → Left (readingOf w table grants)
   left-start w table grants t g e =
-      rw (e .0, e .1, t, g)
+      rw (e .0, e .1, e .2, e .3, t, g)
       (record { left = length b; enough = omega arith; inside = omega arith; same = refl; accepted = none-accepted noMemory })
 
   module _ {s : Reading} (l : Left s) where
@@ -83,12 +83,12 @@ module _ (whole : Bool) (b : List ℕ) where
         omega (arith, e, taken-later whole b s)
 
   -- at the end
-  pub left-end : (w : Walk) (table grants : List ℕ) {o : ℕ} → Left (readingOf w table grants) → length b ≤ w .offset
-      → o ≡ w .events or w .offset
-      → Loads (record { refusal = 0; offset = o; table = table; grants = grants }) (readFrom (length b) whole b atStart)
-  left-end w table grants l h e =
+  pub left-end : (w : Walk) (table grants : List ℕ) {o r : ℕ} → Left (readingOf w table grants) → length b ≤ w .offset
+      → o ≡ w .events or w .offset → r ≡ w .registers or o
+      → Loads (record { refusal = 0; offset = o; registers = r; table = table; grants = grants }) (readFrom (length b) whole b atStart)
+  left-end w table grants l h e p =
       rw (l .same ∙ read-past whole b (l .left) (readingOf w table grants) h)
-      (record { refusal = refl; offset = e; tree = λ q. refl; grants = λ q. refl })
+      (record { refusal = refl; offset = e; registers = λ q. p ∙ rw e; tree = λ q. refl; grants = λ q. refl })
 
   -- a whole file
   pub loads-over : {r : Loaded} → 65536 < length b → (r .refusal ≡ 1) × (r .offset ≡ 65536) → Loads r (readIn whole b)

@@ -1,4 +1,4 @@
--- How long a record is: at least its byte of kind, at most 17 bytes.
+-- How long a record is: at least its byte of kind, at most 66 bytes.
 use mathlib.Core.Path.{_≡_, refl, sym}
 use mathlib.Core.Bool.{Bool, true, not, _&&_, _||_}
 use mathlib.Core.List.{List, [], _∷_}
@@ -27,16 +27,22 @@ every-at f [] k n e = n
 every-at f (x ∷ xs) zero n e = both (f x) (every f xs) e .0
 every-at f (x ∷ xs) (suc k) n e = every-at f xs k n (both (f x) (every f xs) e .1)
 
-pub body-most : (kind : ℕ) → formOf kind .body ≤ 16
+pub body-most : (kind : ℕ) → formOf kind .body ≤ 65
 unfolding formOf every
-body-most kind = leb-true (formOf kind .body) 16 (every-at (λ x. leb (x .body) 16) forms kind refl refl)
+body-most kind = leb-true (formOf kind .body) 65 (every-at (λ x. leb (x .body) 65) forms kind refl refl)
 
--- a host has 17 bytes
+-- a host has 17 bytes, a register record 66
 pub host-size : (kind : ℕ) → isA class.Host (formOf kind .class) ≡ true → sizeOf kind ≡ 17
 unfolding formOf every
 host-size kind h =
     let e = every-at (λ x. not (isA class.Host (x .class)) || eqb (x .body) 16) forms kind refl refl in
     omega (arith, eqb-true (formOf kind .body) 16 (rw h at e))
+
+pub registers-size : (kind : ℕ) → isA class.Registers (formOf kind .class) ≡ true → sizeOf kind ≡ 66
+unfolding formOf every
+registers-size kind h =
+    let e = every-at (λ x. not (isA class.Registers (x .class)) || eqb (x .body) 65) forms kind refl refl in
+    omega (arith, eqb-true (formOf kind .body) 65 (rw h at e))
 
 pub size-least : (kind : ℕ) → 1 ≤ sizeOf kind
 size-least kind = omega arith

@@ -26,14 +26,15 @@ use Rattle.file_record.specs.declared.Class.the-variants as class
 use Rattle.file_record.specs.declared.Event.{Event}
 use Rattle.file_record.specs.declared.Walk.{Walk}
 use Rattle.file_record.specs.definitions.Number.{byteIn}
-use Rattle.file_record.specs.definitions.Record.{sizeOf, classIn, classNumber, isA, isKnown, cutShort, hostIn, nodeIn, seatIn}
+use Rattle.file_record.specs.definitions.Record.{sizeOf, classIn, classNumber, isA, isKnown, cutShort, hostIn, nodeIn, seatIn, registersIn}
+use Rattle.file_record.specs.laws.RecordLaws.{registers-size}
 use Rattle.file_record.specs.definitions.Events.{eventIn, eventWrong, eventUnknown}
-use Rattle.file_record.specs.definitions.Load.{Reading, hostWrong, shapeFaults, shapeFault, nodeFault, fieldFault, seatFault, unknownFault, eventFault, recordFault, taken}
+use Rattle.file_record.specs.definitions.Load.{Reading, hostWrong, shapeFaults, shapeFault, nodeFault, fieldFault, seatFault, unknownFault, eventFault, misplaced, placeFault, unsound, valueFault, registerFault, recordFault, taken}
 use Rattle.file_record.specs.definitions.Loads.{readingOf, Steps}
 
 -- a number is that of one class alone
 numbered : ℕ → Class
-numbered n = getD (class.Unknown ∷ class.Host ∷ class.Node ∷ class.Seat ∷ class.Event ∷ []) n class.Unknown
+numbered n = getD (class.Unknown ∷ class.Host ∷ class.Node ∷ class.Seat ∷ class.Registers ∷ class.Event ∷ []) n class.Unknown
 
 pub is-a : (k c : Class) → isA k c ≡ true → c ≡ k
 unfolding numbered
@@ -46,6 +47,7 @@ is-a k c e =
     number-of class.Host = refl
     number-of class.Node = refl
     number-of class.Seat = refl
+    number-of class.Registers = refl
     number-of class.Event = refl
 
 -- the class at an offset, as a function has tested it
@@ -107,7 +109,7 @@ seat-right k g r w z = sym w ∙ z
 module _ (b : List ℕ) (w : Walk) (table grants : List ℕ) {o : ℕ} (past : o ≡ w .offset + sizeOf (byteIn b (w .offset))) where
   pub node-past : {after : List ℕ} {f : ℕ} → isA class.Node (classIn b (w .offset)) ≡ true
       → (f ≡ nodeFault b (w .offset) (treeOf table)) × (f ≡ 0 → treeOf after ≡ grown (treeOf table) (nodeIn b (w .offset))) → f ≡ 0
-      → Steps (record { refusal = 0; offset = o; events = w .events }) after grants (nodeFault b (w .offset) (treeOf table))
+      → Steps (record { refusal = 0; offset = o; registers = w .registers; events = w .events; least = w .least }) after grants (nodeFault b (w .offset) (treeOf table))
       (taken b (readingOf w table grants))
   unfolding taken
   node-past k e z =
@@ -118,7 +120,7 @@ module _ (b : List ℕ) (w : Walk) (table grants : List ℕ) {o : ℕ} (past : o
 
   pub seat-past : {after : List ℕ} {f fault : ℕ} → isA class.Seat (classIn b (w .offset)) ≡ true
       → (f ≡ fault) × (f ≡ 0 → grantsOf after ≡ seated (treeOf table .count) (grantsOf grants) (seatIn b (w .offset))) → f ≡ 0
-      → Steps (record { refusal = 0; offset = o; events = w .events }) table after fault (taken b (readingOf w table grants))
+      → Steps (record { refusal = 0; offset = o; registers = w .registers; events = w .events; least = w .least }) table after fault (taken b (readingOf w table grants))
   unfolding taken
   seat-past k e z =
       record {
@@ -128,7 +130,7 @@ module _ (b : List ℕ) (w : Walk) (table grants : List ℕ) {o : ℕ} (past : o
 
   pub event-past : {e : Event} {x y : Bool} {k : ℕ} → isA class.Event (classIn b (w .offset)) ≡ true → e ≡ eventIn b (w .offset)
       → x ≡ eventWrong (treeOf table) e → x ≡ false → y ≡ eventUnknown (grantsOf grants) e → y ≡ false → k ≡ w .events or w .offset
-      → Steps (record { refusal = 0; offset = o; events = k }) table grants (eventFault b (w .offset) (treeOf table) (grantsOf grants))
+      → Steps (record { refusal = 0; offset = o; registers = w .registers; events = k; least = w .least }) table grants (eventFault b (w .offset) (treeOf table) (grantsOf grants))
       (taken b (readingOf w table grants))
   unfolding taken
   event-past c e x z y u k =
@@ -137,9 +139,21 @@ module _ (b : List ℕ) (w : Walk) (table grants : List ℕ) {o : ℕ} (past : o
         reading = λ q. rw (is-a class.Event (classIn b (w .offset)) c, past, k);
       }
 
+  pub registers-past : {i k : ℕ} {n : Node} {part : List ℕ} {x y : Bool} → isA class.Registers (classIn b (w .offset)) ≡ true
+      → i ≡ byteIn b (w .offset + 1) → x ≡ misplaced b (w .offset) (treeOf table) (w .least) → x ≡ false → n ≡ treeOf table .node i
+      → part ≡ registersIn b (w .offset) → y ≡ unsound n part → y ≡ false → k ≡ w .registers or w .offset
+      → Steps (record { refusal = 0; offset = o; registers = k; events = w .events; least = i + 1 }) table grants
+      (registerFault b (w .offset) (treeOf table) (w .least)) (taken b (readingOf w table grants))
+  unfolding taken
+  registers-past c e x z m p y u k =
+      record {
+        refusal = rw (← x, z, ← e, ← m, ← p, ← y, u);
+        reading = λ q. rw (is-a class.Registers (classIn b (w .offset)) c, past, k, e);
+      }
+
   pub host-past : {after : List ℕ} {h : Range} → isA class.Host (classIn b (w .offset)) ≡ true → h ≡ hostIn b (w .offset)
       → treeOf after ≡ noTree h
-      → Steps (record { refusal = 0; offset = o; events = w .events }) after grants 0 (taken b (readingOf w table grants))
+      → Steps (record { refusal = 0; offset = o; registers = w .registers; events = w .events; least = w .least }) after grants 0 (taken b (readingOf w table grants))
   unfolding taken
   host-past c e t =
       record {
@@ -156,10 +170,20 @@ module _ (b : List ℕ) (o : ℕ) (t : Tree) (g : Grants) {r : Walk} {table gran
   pub unknown-stops : {y : Bool} → x ≡ false → y ≡ eventUnknown g e → y ≡ true → r .refusal ≡ 15 → Steps r table grants (eventFault b o t g) next
   unknown-stops z u v n = step-stops n (rw (← at, ← w, z, ← u, v)) (λ q. omega (arith, q))
 
+-- 16 of a register record, and 17 where there is no 16
+module _ (b : List ℕ) (o least : ℕ) (t : Tree) {r : Walk} {table grants : List ℕ} {x : Bool} {next : Reading}
+    (w : x ≡ misplaced b o t least) where
+  pub place-stops : x ≡ true → r .refusal ≡ 16 → Steps r table grants (registerFault b o t least) next
+  place-stops z n = step-stops n (rw (← w, z)) (λ q. omega (arith, q))
+
+  pub value-stops : {i : ℕ} {n : Node} {part : List ℕ} {y : Bool} → i ≡ byteIn b (o + 1) → x ≡ false → n ≡ t .node i
+      → part ≡ registersIn b o → y ≡ unsound n part → y ≡ true → r .refusal ≡ 17 → Steps r table grants (registerFault b o t least) next
+  value-stops e z m p u v n = step-stops n (rw (← w, z, ← e, ← m, ← p, ← u, v)) (λ q. omega (arith, q))
+
 -- a record's fault, by its class
 module _ (whole : Bool) (b : List ℕ) (s : Reading) {f : ℕ} {c : Class}
-    (shape : f ≡ shapeFault whole b c (s .offset) (s .events)) (is : c ≡ classIn b (s .offset)) where
-  shape-is : f ≡ shapeFault whole b (classIn b (s .offset)) (s .offset) (s .events)
+    (shape : f ≡ shapeFault whole b c (s .offset) (s .registers) (s .events)) (is : c ≡ classIn b (s .offset)) where
+  shape-is : f ≡ shapeFault whole b (classIn b (s .offset)) (s .offset) (s .registers) (s .events)
   shape-is = rw (← is) shape
 
   pub shape-stops : {r : Walk} {table grants : List ℕ} {next : Reading} → (f ≡ 0 → ⊥) → r .refusal ≡ f
@@ -177,6 +201,13 @@ module _ (whole : Bool) (b : List ℕ) (s : Reading) {f : ℕ} {c : Class}
     fault-event k =
         rw (eq-eqb _ 0 (sym shape-is ∙ none), k, and-false whole)
         (ap (λ n. fieldFault b (s .offset) (s .tree) or n) (or-last (unknownFault b (s .offset) (s .grants))))
+
+    fault-registers : classIn b (s .offset) ≡ class.Registers
+        → recordFault whole b s ≡ registerFault b (s .offset) (s .tree) (s .least)
+    unfolding recordFault first
+    fault-registers k =
+        rw (eq-eqb _ 0 (sym shape-is ∙ none), k, and-false whole)
+        (ap (λ n. placeFault b (s .offset) (s .tree) (s .least) or n) (or-last (valueFault b (s .offset) (s .tree))))
 
     fault-seat : classIn b (s .offset) ≡ class.Seat → recordFault whole b s ≡ seatFault b (s .offset) (s .tree) (s .grants) when whole
     unfolding recordFault first
@@ -199,15 +230,19 @@ module _ (whole : Bool) (b : List ℕ) (s : Reading) {f : ℕ} {c : Class}
           → Steps r table grants (recordFault whole b s) next
       event-goes e h p = rw (fault-event (is-a class.Event (classIn b (s .offset)) (rw is at (sym e ∙ h)))) p
 
+      pub registers-goes : x ≡ isA class.Registers c → x ≡ true → Steps r table grants (registerFault b (s .offset) (s .tree) (s .least)) next
+          → Steps r table grants (recordFault whole b s) next
+      registers-goes e h p = rw (fault-registers (is-a class.Registers (classIn b (s .offset)) (rw is at (sym e ∙ h)))) p
+
     pub host-goes : {r : Walk} {table grants : List ℕ} {next : Reading} → isA class.Host (classIn b (s .offset)) ≡ true
         → Steps r table grants 0 next → Steps r table grants (recordFault whole b s) next
     host-goes h p = rw (fault-host (is-a class.Host (classIn b (s .offset)) h)) p
 
 -- a shape without a fault
-module _ (whole : Bool) (b : List ℕ) (c : Class) (o events : ℕ) (z : shapeFault whole b c o events ≡ 0) where
-  tests-fail : (k : ℕ) → k < 4 → at (shapeFaults whole b c o events) k ≡ 0
+module _ (whole : Bool) (b : List ℕ) (c : Class) (o registers events : ℕ) (z : shapeFault whole b c o registers events ≡ 0) where
+  tests-fail : (k : ℕ) → k < 4 → at (shapeFaults whole b c o registers events) k ≡ 0
   unfolding shapeFault
-  tests-fail = list-none-given (shapeFaults whole b c o events) z
+  tests-fail = list-none-given (shapeFaults whole b c o registers events) z
 
   pub shape-known : isKnown whole c ≡ true
   shape-known = not-false (isKnown whole c) (when-not 2 _ (λ e. omega (arith, e)) (tests-fail 0 (lit< tt)))
@@ -219,21 +254,29 @@ module _ (whole : Bool) (b : List ℕ) (c : Class) (o events : ℕ) (z : shapeFa
   pub shape-host : hostWrong c o ≡ false
   shape-host = when-not 4 _ (λ e. omega (arith, e)) (tests-fail 2 (lit< tt))
 
--- what is known and is no node, no seat record and no event is a host
-pub host-left : (whole : Bool) (b : List ℕ) (o events : ℕ) {c : Class} {f : ℕ} {x y z : Bool} → c ≡ classIn b o
-    → f ≡ shapeFault whole b c o events → f ≡ 0 → x ≡ isA class.Node c → x ≡ false → y ≡ isA class.Event c → y ≡ false
-    → z ≡ isA class.Seat c → z ≡ false → isA class.Host (classIn b o) ≡ true
-host-left whole b o events {c} is s n e h i j k l =
-    rw (← is) (left c (shape-known whole b c o events (sym s ∙ n)) (sym e ∙ h) (sym i ∙ j) (sym k ∙ l))
+-- a register record ends within the file
+pub registers-end : (whole : Bool) (b : List ℕ) (o registers events : ℕ) {c : Class} {f : ℕ} {x : Bool} → c ≡ classIn b o
+    → f ≡ shapeFault whole b c o registers events → f ≡ 0 → x ≡ isA class.Registers c → x ≡ true → o + 66 ≤ length b
+registers-end whole b o registers events {c} is s n e h =
+    let size = registers-size (byteIn b o) (rw is at (sym e ∙ h)) in
+    omega (arith, size, shape-ends whole b c o registers events (sym s ∙ n))
+
+-- what is known and is no node, no event, no seat record and no register record is a host
+pub host-left : (whole : Bool) (b : List ℕ) (o registers events : ℕ) {c : Class} {f : ℕ} {x y z u : Bool} → c ≡ classIn b o
+    → f ≡ shapeFault whole b c o registers events → f ≡ 0 → x ≡ isA class.Node c → x ≡ false → y ≡ isA class.Event c → y ≡ false
+    → z ≡ isA class.Seat c → z ≡ false → u ≡ isA class.Registers c → u ≡ false → isA class.Host (classIn b o) ≡ true
+host-left whole b o registers events {c} is s n e h i j k l v m =
+    rw (← is) (left c (shape-known whole b c o registers events (sym s ∙ n)) (sym e ∙ h) (sym i ∙ j) (sym k ∙ l) (sym v ∙ m))
   where
     left : (c : Class) → isKnown whole c ≡ true → isA class.Node c ≡ false → isA class.Event c ≡ false → isA class.Seat c ≡ false
-        → isA class.Host c ≡ true
-    left class.Unknown k n e s = absurd (none whole k)
+        → isA class.Registers c ≡ false → isA class.Host c ≡ true
+    left class.Unknown k n e s r = absurd (none whole k)
       where
         none : (k : Bool) → k && false ≡ true → ⊥
         none true e = false≢true e
         none false e = false≢true e
-    left class.Host k n e s = refl
-    left class.Node k n e s = absurd (true≢false n)
-    left class.Seat k n e s = absurd (true≢false s)
-    left class.Event k n e s = absurd (true≢false e)
+    left class.Host k n e s r = refl
+    left class.Node k n e s r = absurd (true≢false n)
+    left class.Seat k n e s r = absurd (true≢false s)
+    left class.Registers k n e s r = absurd (true≢false r)
+    left class.Event k n e s r = absurd (true≢false e)

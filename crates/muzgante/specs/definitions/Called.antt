@@ -5,7 +5,7 @@ use Rattle.rack.specs.definitions.First.{_when_, _or_, unless}
 use Rattle.seat.specs.definitions.Grants.{acting}
 use Rattle.arbiter.specs.declared.Arbitration.{Arbitration}
 use Rattle.arbiter.specs.definitions.Arbiter.{arbitrate}
-use Rattle.register_image.specs.definitions.Image.{Images, images, Result, gives}
+use Rattle.register_image.specs.definitions.Image.{Images, Result, gives}
 use Rattle.register_image.specs.definitions.Fixed.{lengthsWrong}
 use Rattle.register_image.specs.definitions.Reset.{resetImages}
 use Rattle.file_record.specs.definitions.Events.{eventIn, eventBytes}
@@ -13,20 +13,8 @@ use Rattle.file_record.specs.definitions.Load.{rackAlone}
 use Rattle.call_table.specs.declared.RangeReply.{RangeReply}
 use Rattle.call_table.specs.declared.Reply.{Reply}
 use Rattle.call_table.specs.definitions.Call.{runIn, checkIn, endsIn}
+use Rattle.call_numbers.specs.definitions.Called.{Called, refusedCall}
 use Rattle.call_numbers.specs.definitions.Numbers.{zeros, codeOf, replyNumbers, endsCode, endsNumbers}
-
--- 0 or the refusal's number, eight numbers, and both images
-pub record Called : Type 0 where
-  pub code : ℕ
-  pub numbers : List ℕ
-  pub after : Images
-
-abbrev pub called : ℕ → List ℕ → List ℕ → List ℕ → Called
-called code numbers b d = record { code = code; numbers = numbers; after = images b d }
-
--- a refusal: its number is returned, the answer is all 0, both images are untouched
-abbrev pub refusedCall : ℕ → Images → Called
-refusedCall refusal im = record { code = refusal; numbers = zeros; after = im }
 
 abbrev pub repliedCall : Result Reply → Called
 repliedCall r = record { code = codeOf (r .answer); numbers = replyNumbers (r .answer); after = r .after }

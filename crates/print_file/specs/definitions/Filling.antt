@@ -3,7 +3,7 @@ use Prim.Native.Nat.{ℕ, zero, suc, _+_, _-_}
 use mathlib.Core.Bool.{Bool, _||_, cond}
 use mathlib.Core.List.{List, [], _++_}
 use lib.Dec.{leb, ltb}
-use lib.ListN.{length, drop}
+use lib.ListN.{length}
 use Rattle.rack.specs.definitions.Tree.{Tree}
 use Rattle.seat.specs.definitions.Grants.{Grants, acting}
 use Rattle.register_image.specs.definitions.Image.{Images, Result}
@@ -61,7 +61,3 @@ partUpTo (suc left) t g b room at im =
 -- as many whole lines as a buffer of `room` bytes takes
 abbrev pub partOf : Tree → Grants → List ℕ → ℕ → Cursor → Images → Part
 partOf t g b room at im = partUpTo (length b) t g b room at im
-
--- a buffer with a text written over its start
-abbrev pub overStart : List ℕ → List ℕ → List ℕ
-overStart out text = text ++ drop (length text) out

@@ -3,10 +3,11 @@ use mathlib.Core.Path.{_≡_}
 use Prim.Native.Nat.{ℕ, _+_, _≤_, _<_}
 use mathlib.Core.List.{List}
 use lib.ListN.{length}
+use Rattle.rack.specs.definitions.Buffer.{overStart}
 use Rattle.register_image.specs.definitions.Image.{Images}
 use Rattle.print_file.specs.declared.Cursor.{Cursor}
 use Rattle.print_file.specs.declared.Filled.{Filled}
-use Rattle.print_file.specs.definitions.Filling.{Part, overStart}
+use Rattle.print_file.specs.definitions.Filling.{Part}
 
 -- the text at the buffer's start, every byte after it as it was; its length, the next cursor, and both images
 pub record Fills (r : Filled) (old new : List ℕ) (im : Images) (p : Part) : Type 0 where

@@ -7,12 +7,12 @@ use lib.ListN.{length, replicate}
 use Rattle.rack.specs.definitions.Tree.{Tree, bridgeCount, deviceCount}
 use Rattle.seat.specs.definitions.Grants.{Acting, acting}
 use Rattle.register_image.specs.definitions.Image.{Images, images}
-use Rattle.register_image.specs.definitions.Reset.{resetImages}
 use Rattle.file_record.specs.declared.Event.{Event}
 use Rattle.file_record.specs.definitions.Number.{byteIn}
 use Rattle.file_record.specs.definitions.Record.{sizeOf}
 use Rattle.file_record.specs.definitions.Events.{eventIn, actsAfter}
 use Rattle.file_record.specs.definitions.Load.{fileIn}
+use Rattle.file_record.specs.definitions.Start.{startImages}
 use Rattle.event_run.specs.declared.Answer.{Answer}
 use Rattle.event_run.specs.declared.Answer.the-variants.{Ended, Checked, Seated}
 use Rattle.event_run.specs.definitions.Run.{eventRun}
@@ -40,7 +40,7 @@ eventsUpTo (suc left) b o = cond (leb (length b) o) [] (eventIn b o ∷ eventsUp
 abbrev pub eventsAt : List ℕ → ℕ → List Event
 eventsAt b o = eventsUpTo (length b) b o
 
--- images as long as a rack's registers, before they are reset
+-- images as long as a rack's registers, before they are set
 abbrev pub blank : Tree → Images
 blank t = images (replicate (64 * bridgeCount t) 0) (replicate (64 * deviceCount t) 0)
 
@@ -48,11 +48,11 @@ blank t = images (replicate (64 * bridgeCount t) 0) (replicate (64 * deviceCount
 abbrev pub firstAt : ℕ → Cursor
 firstAt o = record { offset = o; number = 1; seat = 0 }
 
--- 01: '`rackrun` reads a rack file from standard input, checks all of it, then runs it from reset'; 'A refused input prints only
--- `refused N at O`'
+-- 01: '`rackrun` reads a rack file from standard input, checks all of it, then runs it from reset'; 02, E2: 'The run then starts from these
+-- registers instead of reset'; 'A refused input prints only `refused N at O`'
 unfoldable pub outputOf : List ℕ → List ℕ
 outputOf b =
     cond (eqb (fileIn b .refusal) 0)
-    (linesOf (fileIn b .tree) (acting (fileIn b .grants) 0) 1 (resetImages (fileIn b .tree) (blank (fileIn b .tree)))
+    (linesOf (fileIn b .tree) (acting (fileIn b .grants) 0) 1 (startImages b (blank (fileIn b .tree)))
     (eventsAt b (fileIn b .offset)))
     (refusedLine (fileIn b .refusal) (fileIn b .offset))

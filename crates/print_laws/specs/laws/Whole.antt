@@ -10,8 +10,8 @@ use Rattle.rack.specs.laws.Bools.{tested}
 use Rattle.rack.specs.definitions.Tree.{Tree}
 use Rattle.seat.specs.definitions.Grants.{Grants}
 use Rattle.register_image.specs.definitions.Image.{Images}
-use Rattle.register_image.specs.definitions.Reset.{resetImages}
 use Rattle.file_record.specs.definitions.Load.{fileIn}
+use Rattle.file_record.specs.definitions.Start.{startImages}
 use Rattle.print_line.specs.definitions.Line.{refusedLine}
 use Rattle.print_file.specs.declared.Cursor.{Cursor}
 use Rattle.print_file.specs.definitions.Output.{blank, firstAt, outputOf}
@@ -37,23 +37,23 @@ module _ (t : Tree) (g : Grants) (b : List ℕ) where
       ∙ sym (part-lines t g b room at im)))
 
 module _ (b : List ℕ) where
-  -- where a run begins: at the first event, with number 1, and from reset
+  -- where a run begins: at the first event, with number 1, and from the file's registers
   abbrev pub firstOf : Cursor
   firstOf = firstAt (fileIn b .offset)
 
-  abbrev pub resetOf : Images
-  resetOf = resetImages (fileIn b .tree) (blank (fileIn b .tree))
+  abbrev pub startOf : Images
+  startOf = startImages b (blank (fileIn b .tree))
 
   -- the output of a refused file is one line, that of an accepted one the lines from there on
   pub output-refused : (fileIn b .refusal ≡ 0 → ⊥) → outputOf b ≡ refusedLine (fileIn b .refusal) (fileIn b .offset)
   unfolding outputOf
   output-refused z = rw (ne-eqb (fileIn b .refusal) 0 z)
 
-  pub output-accepted : fileIn b .refusal ≡ 0 → outputOf b ≡ linesAt (fileIn b .tree) (fileIn b .grants) b firstOf resetOf
+  pub output-accepted : fileIn b .refusal ≡ 0 → outputOf b ≡ linesAt (fileIn b .tree) (fileIn b .grants) b firstOf startOf
   unfolding outputOf
   output-accepted z = rw (eq-eqb (fileIn b .refusal) 0 z)
 
   pub whole : (room : ℕ) → fileIn b .refusal ≡ 0 → 96 ≤ room
-      → callsUpTo (length b) (fileIn b .tree) (fileIn b .grants) b room firstOf resetOf ≡ outputOf b
+      → callsUpTo (length b) (fileIn b .tree) (fileIn b .grants) b room firstOf startOf ≡ outputOf b
   whole room z r =
-      calls-lines (fileIn b .tree) (fileIn b .grants) b (length b) room firstOf resetOf r (omega arith) ∙ sym (output-accepted z)
+      calls-lines (fileIn b .tree) (fileIn b .grants) b (length b) room firstOf startOf r (omega arith) ∙ sym (output-accepted z)

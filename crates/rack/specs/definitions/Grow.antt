@@ -9,9 +9,17 @@ use Rattle.rack.specs.declared.Rack.{Rack}
 use Rattle.rack.specs.definitions.Node.{isBridge, spelt, noNode}
 use Rattle.rack.specs.definitions.Tree.{Tree, imageCount}
 
+-- 01: 'first above last means none'
+abbrev pub noMemory : Range
+noMemory = record { first = 1; last = 0 }
+
+-- 02, E2: 'A host without memory is written as first 1, last 0, and counts as equal to any other without memory'
+abbrev pub memoryOf : Range → Range
+memoryOf h = cond (ltb (h .last) (h .first)) noMemory h
+
 -- a tree without nodes
 abbrev pub noTree : Range → Tree
-noTree h = record { count = 0; hostMemory = h; node = λ i. spelt noNode; place = λ i. 0; depthOf = λ i. 0; deepest = 0 }
+noTree h = record { count = 0; hostMemory = memoryOf h; node = λ i. spelt noNode; place = λ i. 0; depthOf = λ i. 0; deepest = 0 }
 
 -- the nodes with one more after the last
 abbrev pub nodesWith : Tree → Node → ℕ → Node

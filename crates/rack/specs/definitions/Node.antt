@@ -33,7 +33,11 @@ noRegion = record { kind = 0; exponent = 0 }
 abbrev pub regionIn : Node → ℕ → Region
 regionIn n r = getD (n .regions) r noRegion
 
--- a node with its three regions written out, which is the same node
+-- a region that a record can say: 'A bridge has no regions', so those of a decoded bridge are no content of its rack
+abbrev pub ownRegion : Node → ℕ → Region
+ownRegion n r = cond (isBridge (n .kind)) noRegion (regionIn n r)
+
+-- a node as its record says it, with its three regions written out
 abbrev pub spelt : Node → Node
 spelt n =
     record {
@@ -42,7 +46,7 @@ spelt n =
       device = n .device;
       «vendor_id» = n .«vendor_id»;
       «device_id» = n .«device_id»;
-      regions = regionIn n 0 ∷ regionIn n 1 ∷ regionIn n 2 ∷ [];
+      regions = ownRegion n 0 ∷ ownRegion n 1 ∷ ownRegion n 2 ∷ [];
     }
 
 -- what stands where a rack has no node

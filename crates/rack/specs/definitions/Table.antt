@@ -8,7 +8,7 @@ use lib.Dec.{ltb}
 use lib.ListN.{getD, set}
 use Rattle.rack.specs.declared.Region.{Region}
 use Rattle.rack.specs.declared.Node.{Node}
-use Rattle.rack.specs.definitions.Node.{kindNumber, kindFrom, regionIn}
+use Rattle.rack.specs.definitions.Node.{kindNumber, kindFrom, ownRegion}
 use Rattle.rack.specs.definitions.Tree.{Tree}
 
 -- a word holds eight bytes, lowest first
@@ -26,11 +26,11 @@ pub record Bytes (w a b c d e f g h : ℕ) : Type 0 where
 abbrev pub Low : Node → ℕ → ℕ → Type 0
 Low n place w =
     Bytes w (kindNumber (n .kind)) (n .parent) (n .device) place
-    (regionIn n 0 .kind) (regionIn n 0 .exponent) (regionIn n 1 .kind) (regionIn n 1 .exponent)
+    (ownRegion n 0 .kind) (ownRegion n 0 .exponent) (ownRegion n 1 .kind) (ownRegion n 1 .exponent)
 
 abbrev pub High : Node → ℕ → ℕ → Type 0
 High n depth w =
-    Bytes w (regionIn n 2 .kind) (regionIn n 2 .exponent) (n .«vendor_id» % 256) (n .«vendor_id» / 256)
+    Bytes w (ownRegion n 2 .kind) (ownRegion n 2 .exponent) (n .«vendor_id» % 256) (n .«vendor_id» / 256)
     (n .«device_id» % 256) (n .«device_id» / 256) depth 0
 
 -- what the last word holds

@@ -1,5 +1,5 @@
 use Rattle.rackrun.proofs.Ends.{Left, left-all, left-end, left-next, left-less}
-use Rattle.rackrun.proofs.Read.{accepted-rack, accepted-long}
+use Rattle.rackrun.proofs.Read.{accepted-rack, accepted-long, accepted-held, accepted-first}
 use mathlib.Core.Path.{_≡_, refl}
 use Prim.Native.Nat.{_-_}
 use lib.ListN.{length}
@@ -11,16 +11,16 @@ use Rattle.rackrun.proofs.print_events.Statement.{statement}
 use Rattle.rackrun.proofs.print_events.Tie as tie
 
 abbrev Inv-loop : tie.InvT-loop
-Inv-loop file table grants bridges₀ devices₀ offset next₀ bridges devices next =
+Inv-loop file table grants bridges₀ devices₀ registers offset next₀ bridges devices next =
     (Left (treeOf table) (grantsOf grants) file next₀ (images bridges₀ devices₀) next (images bridges devices))
     × (length bridges ≡ length bridges₀)
     × (length devices ≡ length devices₀)
 
 abbrev μ-loop : tie.MeasureT-loop
-μ-loop file table grants bridges₀ devices₀ offset next₀ bridges devices next = length file - next .offset
+μ-loop file table grants bridges₀ devices₀ registers offset next₀ bridges devices next = length file - next .offset
 
 start-requires : tie.Need-start-requires Inv-loop μ-loop
-start-requires c κs = search needs
+start-requires c κs = (search (accepted-held, needs), search (accepted-first, needs), search (accepted-long, needs))
 
 loop-holds : tie.Need-loop-holds Inv-loop μ-loop
 loop-holds c = (search (left-all, needs), refl, refl)

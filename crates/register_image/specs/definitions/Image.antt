@@ -63,3 +63,7 @@ writeNode t im i register enables put = onNode t im i (λ part. writeRegister (t
 
 abbrev pub statusNode : Tree → Images → ℕ → Side → StatusBit → Images
 statusNode t im i side bit = onNode t im i (λ part. setStatus (t .node i) part side bit)
+
+-- the registers of one node set to other bytes
+abbrev pub setNode : Tree → Images → ℕ → List ℕ → Images
+setNode t im i bytes = onNode t im i (λ part. bytes)

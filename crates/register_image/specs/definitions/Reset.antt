@@ -1,7 +1,11 @@
 -- The images at reset.
 use Prim.Native.Nat.{ℕ, zero, suc, _+_}
+use mathlib.Core.Bool.{Bool, not}
 use mathlib.Core.List.{List, [], _∷_}
+use lib.Dec.{eqb}
+use lib.ListN.{getD}
 use Rattle.rack.specs.declared.Node.{Node}
+use Rattle.rack.specs.definitions.Count.{some}
 use Rattle.rack.specs.definitions.Tree.{Tree}
 use Rattle.register_header.specs.definitions.Mask.{resetByte}
 use Rattle.register_image.specs.definitions.Image.{Images, onNode}
@@ -13,6 +17,13 @@ resetFrom n i (suc left) = resetByte n i ∷ resetFrom n (i + 1) left
 
 abbrev pub resetPart : Node → List ℕ
 resetPart n = resetFrom n 0 64
+
+-- 02, E2: 'nodes that differ from reset': in a byte, in any of the 64
+unfoldable pub byteChanged : Node → List ℕ → ℕ → Bool
+byteChanged n part at = not (eqb (getD part at 0) (resetByte n at))
+
+abbrev pub isChanged : Node → List ℕ → Bool
+isChanged n part = some (byteChanged n part) 64
 
 -- the images with the `left` nodes from i on at reset
 unfoldable pub resetNodes : Tree → Images → ℕ → ℕ → Images

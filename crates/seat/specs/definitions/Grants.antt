@@ -74,6 +74,10 @@ isPair seat node = (leb 1 seat && leb seat 15) && ltb node 96
 abbrev pub slot : ℕ → ℕ → ℕ
 slot seat node = 96 * (seat - 1) + node
 
+-- 02, E2: 'Grants are compared as a set': the mask of a pair that is not named is no content
+abbrev pub ownGrant : Grant → Grant
+ownGrant g = cond (g .named) g noGrant
+
 -- the grants of a decoded rack; there 14 is a named pair whose node is missing
 abbrev pub namedMissing : Rack → ℕ → Bool
 namedMissing rack k = getD (rack .grants) k noGrant .named && leb (rack .count) (k % 96)
@@ -81,6 +85,6 @@ namedMissing rack k = getD (rack .grants) k noGrant .named && leb (rack .count) 
 abbrev pub grants : Rack → Grants
 grants rack =
     record {
-      grant = λ seat node. cond (isPair seat node) (getD (rack .grants) (slot seat node) noGrant) noGrant;
+      grant = λ seat node. cond (isPair seat node) (ownGrant (getD (rack .grants) (slot seat node) noGrant)) noGrant;
       wrong = some (namedMissing rack) 1440;
     }

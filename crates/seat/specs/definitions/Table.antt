@@ -8,9 +8,9 @@ use lib.ListN.{getD}
 use Rattle.rack.specs.declared.Grant.{Grant}
 use Rattle.seat.specs.definitions.Grants.{Grants, isPair, slot}
 
--- a grant as a number: its mask, and 65,536 more where it is named
+-- a grant as a number: 65,536 and its mask, or 0 where it is not named
 abbrev pub grantNumber : Grant → ℕ
-grantNumber g = cond (g .named) (65536 + g .mask) (g .mask)
+grantNumber g = cond (g .named) (65536 + g .mask) 0
 
 abbrev pub grantFrom : ℕ → Grant
 grantFrom n = record { named = leb 65536 n; mask = n % 65536 }

@@ -27,7 +27,7 @@ use Rattle.file_laws.specs.laws.Running.{OnEvents, start-on, next-on, event-rig
 use Rattle.event_run.specs.declared.Answer.{Answer}
 use Rattle.event_run.specs.definitions.Run.{configuration, addressed, registerOf, reached, endedAt, eventRun}
 use Rattle.print_file.specs.definitions.Output.{answerLine, linesOf, eventsUpTo, eventsAt, outputOf}
-use Rattle.print_laws.specs.laws.Whole.{resetOf, output-accepted}
+use Rattle.print_laws.specs.laws.Whole.{startOf, output-accepted}
 use Rattle.seat_laws.specs.definitions.Before.{beforeAt, runBefore, linesBefore}
 
 module _ (t : Tree) (by : Acting) (zero : by .seat ≡ 0) where
@@ -98,8 +98,8 @@ module _ (b : List ℕ) (ok : fileIn b .refusal ≡ 0) (no-seats : fileIn b .gra
       rw q (seat-0 o p i, names-none left (o + sizeOf (byteIn b o)) (next-on b ok o p i)))
 
   -- 'a rack without seat records prints what it printed'
-  pub output-before : outputOf b ≡ linesBefore (fileIn b .tree) 1 (resetOf b) (eventsAt b (fileIn b .offset))
+  pub output-before : outputOf b ≡ linesBefore (fileIn b .tree) 1 (startOf b) (eventsAt b (fileIn b .offset))
   output-before =
       output-accepted b ok
-      ∙ lines-before (fileIn b .tree) (fileIn b .grants) (eventsAt b (fileIn b .offset)) 1 (resetOf b)
+      ∙ lines-before (fileIn b .tree) (fileIn b .grants) (eventsAt b (fileIn b .offset)) 1 (startOf b)
       (names-none (length b) (fileIn b .offset) (start-on b ok))

@@ -4,6 +4,7 @@
 use std::io::Write;
 use std::process::{Command, Stdio};
 
+use rackcheck::file::Contents;
 use rackcheck::machine::Machine;
 use rackcheck::program::Run;
 use rackcheck::rack::{Event, Header, Node, Options, Rack, Region};
@@ -143,7 +144,12 @@ impl File {
         self.raw(&[10, seat])
     }
 
-    /// The same file with these seat records behind its other rack records.
+    /// A register record.
+    pub fn saved(self, node: u8, part: &[u8]) -> File {
+        self.raw(&[11, node]).raw(part)
+    }
+
+    /// The same file with these seat records behind its nodes and other seat records.
     pub fn seated(&self, grants: &[(u8, u8, u16)]) -> File {
         let (records, events) = self.0.split_at(self.records_length());
         let records = File(records.to_vec());
@@ -151,10 +157,16 @@ impl File {
         grants.iter().fold(records, seat).raw(events)
     }
 
-    /// How many bytes the rack records have.
+    /// How many bytes the rack records without those of registers have.
     pub fn records_length(&self) -> usize {
-        let events = rackcheck::file::read(&self.0).expect("not refused").1;
-        self.0.len() - events.iter().map(event_length).sum::<usize>()
+        let contents = self.contents();
+        let events = contents.events.iter().map(event_length).sum::<usize>();
+        assert_eq!(contents.records, self.0.len() - events - contents.registers.len() * 66);
+        contents.records
+    }
+
+    pub fn contents(&self) -> Contents {
+        rackcheck::file::read(&self.0).expect("not refused")
     }
 
     /// The program's whole output.
@@ -189,14 +201,14 @@ impl File {
 
     /// The rack.
     pub fn rack(&self) -> Rack {
-        rackcheck::file::read(&self.0).expect("not refused").0
+        self.contents().rack
     }
 
     /// The machine after all events.
     pub fn machine(&self) -> Machine {
-        let (rack, events) = rackcheck::file::read(&self.0).expect("not refused");
-        let mut run = Run::at_reset(rack).expect("not refused");
-        for event in &events {
+        let contents = self.contents();
+        let mut run = Run::start(&contents).expect("not refused");
+        for event in &contents.events {
             run.step(event);
         }
         run.machine
@@ -219,6 +231,13 @@ pub fn event_length(event: &Event) -> usize {
         Event::Check => 1,
         Event::Seat { .. } => 2,
     }
+}
+
+/// A node's registers at reset but for 0Ch, all of which every node can write.
+pub fn off_reset(node: &Node) -> [u8; 64] {
+    let mut part = rackcheck::registers::masks(node).reset;
+    part[0x0C] = 0x55;
+    part
 }
 
 /// Status and, for a bridge, secondary status of a node.

@@ -22,7 +22,8 @@ fn worked_example() {
 #[test]
 fn binary_refuses() {
     assert_eq!(binary(&[]), ("refused 4 at 0\n".to_string(), true));
-    assert_eq!(binary(&[11]).0, "refused 2 at 0\n");
+    assert_eq!(binary(&[12]).0, "refused 2 at 0\n");
+    assert_eq!(binary(&[11]).0, "refused 3 at 0\n");
     assert_eq!(binary(&[8; 65_537]).0, "refused 1 at 65536\n");
     assert_eq!(binary(&[8; 1_000_000]).0, "refused 1 at 65536\n");
     assert_eq!(binary(&[8; 65_536]).0, "refused 4 at 0\n");

@@ -1,6 +1,8 @@
 //! Random byte strings never panic, and their outputs have the right form.
 
 use crate::build::{output, Random};
+use crate::saved::random_part;
+use rackcheck::program::Run;
 use rackcheck::rack::Event;
 
 fn well_formed(bytes: &[u8]) -> bool {
@@ -11,6 +13,9 @@ fn well_formed(bytes: &[u8]) -> bool {
     // All calls over the same bytes, too.
     let _ = rackcheck::calls::check_of_bytes(bytes, bytes, bytes);
     let _ = rackcheck::calls::event_of_bytes(bytes, bytes, &mut [], &mut [], 0);
+    let _ = rackcheck::calls::save_of_bytes(bytes, &[], &[], &mut [0; 20]);
+    let start = rackcheck::calls::start_of_file(bytes, &mut [], &mut []);
+    assert_eq!(matches!(start.records, Ok(_) | Err(11)), !refused);
     !refused
 }
 
@@ -52,6 +57,16 @@ pub fn records(random: &mut Random) -> Vec<u8> {
         }
         if seated {
             bytes.extend([9, random.pick(&[1, 2]), node, random.byte(), random.byte()]);
+        }
+    }
+    if random.one_in(2) {
+        if let Ok(contents) = rackcheck::file::read(&bytes) {
+            for (number, node) in contents.rack.numbered() {
+                if random.one_in(3) {
+                    bytes.extend([11, number]);
+                    bytes.extend(random_part(random, node));
+                }
+            }
         }
     }
     for _ in 0..random.below(60) {
@@ -117,11 +132,13 @@ fn events_one_by_one() {
     let mut random = Random(12);
     for _ in 0..1_500 {
         let bytes = records(&mut random);
-        let Ok((rack, events)) = rackcheck::file::read(&bytes) else { continue };
-        let (mut bridges, mut devices) = rackcheck::registers::reset_images(&rack);
+        let Ok(contents) = rackcheck::file::read(&bytes) else { continue };
+        let machine = Run::start(&contents).expect("not refused").machine;
+        let (mut bridges, mut devices) = (machine.bridges().to_vec(), machine.devices().to_vec());
+        let rack = &contents.rack;
         let (mut lines, mut acting) = (String::new(), 0);
-        for (number, event) in (1..).zip(&events) {
-            let answer = rackcheck::calls::event(&rack, &mut bridges, &mut devices, acting, event);
+        for (number, event) in (1..).zip(&contents.events) {
+            let answer = rackcheck::calls::event(rack, &mut bridges, &mut devices, acting, event);
             lines += &format!("{number} {}\n", answer.expect("not refused"));
             if let Event::Seat { seat } = event {
                 acting = *seat;

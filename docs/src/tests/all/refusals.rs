@@ -33,7 +33,7 @@ fn r01_too_long() {
 
 #[test]
 fn r02_kind() {
-    for kind in (0..=255).filter(|kind| !matches!(kind, 1..=10 | 13)) {
+    for kind in (0..=255).filter(|kind| !matches!(kind, 1..=11 | 13)) {
         refused(File::empty().raw(&[kind]), 2, 0);
         refused(File::new().raw(&[kind]), 2, 17);
         refused(File::new().check().raw(&[kind, 1, 2, 3]), 2, 18);
@@ -42,7 +42,7 @@ fn r02_kind() {
 
 #[test]
 fn r03_cut_short() {
-    let lengths = [16, 6, 12, 8, 3, 10, 6, 0, 4, 1];
+    let lengths = [16, 6, 12, 8, 3, 10, 6, 0, 4, 1, 65];
     for (kind, length) in (1u8..).zip(lengths).chain([(13, 6)]) {
         for have in 0..length {
             refused(File::new().raw(&[kind]).raw(&vec![0; have]), 3, 17);

@@ -128,7 +128,7 @@ pub fn decoded(rack: &Rack) -> Vec<u8> {
     bytes
 }
 
-/// The same call of every operation over a rack, on the records of a file with images after
+/// The same call of every operation from 1 to 11, on the records of a file with images after
 /// its events.
 pub fn every_operation(file: &File, node: u8, named: u8, event: &[u8]) -> Vec<Call> {
     let records = file.0[..file.records_length()].to_vec();
@@ -481,7 +481,7 @@ fn what_is_no_call_ends_the_script() {
     head[1..5].fill(0xFF);
     assert_eq!(script(&head), []);
     // Operations.
-    for operation in (0..=255).filter(|operation| !(1..=12).contains(operation)) {
+    for operation in (0..=255).filter(|operation| !(1..=15).contains(operation)) {
         Call { operation, ..empty() }.ends();
     }
     // Decoded racks of another length or with another kind, and events that are none.
@@ -599,10 +599,14 @@ fn line(n: &[u64]) -> String {
     }
 }
 
-/// A random rack that is written to by seat 0, then events by it and by seats 1 and 15.
+/// A random rack that is written to by seat 0 or has such registers saved, then events by it and
+/// by seats 1 and 15.
 fn random_file(random: &mut Random) -> File {
     let grants = [(1, 0, random.next() as u16), (15, 1, random.next() as u16), (15, 0, 2)];
     let mut file = random_rack(random).seated(&grants);
+    if random.one_in(2) {
+        file = File(rackcheck::saved::file(&file.machine()));
+    }
     let rack = file.rack();
     let devices = rack.numbered().map(|(number, _)| number).filter(|n| rack.regions(*n).is_some());
     let initiators: Vec<u8> = devices.chain([255]).collect();
@@ -634,17 +638,21 @@ fn lines_of_random_files() {
     let mut seen = [0; 13];
     for _ in 0..800 {
         let bytes = random_file(&mut random).0;
-        let (rack, events) = read(&bytes).unwrap();
-        let (records, mut rest) = bytes.split_at(File(bytes.clone()).records_length());
-        let mut images = rackcheck::registers::reset_images(&rack);
+        let contents = read(&bytes).unwrap();
+        let rack = &contents.rack;
+        let (records, mut rest) = bytes.split_at(contents.records);
+        rest = &rest[66 * contents.registers.len()..];
+        let images = rackcheck::registers::reset_images(rack);
+        let start = Call { operation: 15, rack: bytes.clone(), images, ..Call::default() };
+        let mut images = start.gives().images;
         let (mut lines, mut acting) = (String::new(), 0);
-        for (number, read) in (1..).zip(&events) {
+        for (number, read) in (1..).zip(&contents.events) {
             let (event, behind) = rest.split_at(event_length(read));
             rest = behind;
             let call = Call { event: event.to_vec(), images, node: acting, ..Call::default() };
             let over_bytes = Call { operation: 8, rack: records.to_vec(), ..call.clone() };
             let gives = over_bytes.gives();
-            assert_eq!(Call { operation: 6, rack: decoded(&rack), ..call }.gives(), gives);
+            assert_eq!(Call { operation: 6, rack: decoded(rack), ..call }.gives(), gives);
             assert_eq!((gives.number, gives.part.len()), (0, 0));
             lines += &format!("{number} {}\n", line(&gives.numbers));
             seen[gives.numbers[0] as usize] += 1;
@@ -667,7 +675,8 @@ fn any_bytes_do_not_panic() {
         let bytes = random.bytes(length);
         script(&bytes);
         // A head with counts that the rest of the bytes can fill.
-        let mut call = Call { operation: random.below(14) as u8, ..Call::default() };
+        let mut call = Call { operation: random.below(17) as u8, ..Call::default() };
+        call.data = random.below(17_000) as u32;
         call.rack = if random.one_in(2) { decoded(&small().rack()) } else { records(&mut random) };
         call.event = bytes;
         call.images = small().images();

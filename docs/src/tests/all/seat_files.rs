@@ -92,8 +92,8 @@ fn kinds_9_and_10_are_known() {
     refused(rack().acts(0).seat(1, 0, 0), 5, 39);
     refused(rack().acts(0).bridge(9, 99), 5, 39);
     refused(rack().acts(0).device(255, 2, NO_REGIONS), 5, 39);
-    // Kinds 11 and 12 stay unknown.
-    for kind in [11, 12, 14] {
+    // Kinds 12 and 14 stay unknown.
+    for kind in [12, 14] {
         refused(rack().raw(&[kind, 1, 0, 0, 0]), 2, 37);
     }
     // Before all of them 1.
@@ -141,7 +141,7 @@ fn the_first_faulty_record_decides() {
     // Another before it.
     refused(rack().bridge(9, 0).seat(0, 0, 0), 7, 37);
     refused(rack().bridge(255, 1).seat(0, 0, 0), 9, 37);
-    refused(rack().raw(&[11]).seat(0, 0, 0), 2, 37);
+    refused(rack().raw(&[12]).seat(0, 0, 0), 2, 37);
     // A node that is refused gives no number to a seat record.
     refused(rack().bridge(255, 16).seat(1, 2, 0), 8, 37);
     // 15 and other events.

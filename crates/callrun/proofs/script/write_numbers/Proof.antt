@@ -36,6 +36,12 @@ loop-less c = search needs
 loop-again : tie.Need-loop-again Inv-loop μ-loop
 loop-again c = tt
 
+cast-t18 : tie.Need-cast-t18 Inv-loop μ-loop
+cast-t18 c = search needs
+
+cast-t20 : tie.Need-cast-t20 Inv-loop μ-loop
+cast-t20 c = search needs
+
 slice-aggregate-write-all-2 : tie.Need-slice-aggregate-write-all-2 Inv-loop μ-loop
 slice-aggregate-write-all-2 c = search needs
 
@@ -60,6 +66,8 @@ write-numbers-spec =
     add-i
     loop-less
     loop-again
+    cast-t18
+    cast-t20
     slice-aggregate-write-all-2
     write-all-requires-2
     returns)

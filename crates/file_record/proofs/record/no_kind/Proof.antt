@@ -8,8 +8,11 @@ is-rack-requires c κs = search needs
 is-a-requires : tie.Need-is-a-requires
 is-a-requires c κs = search needs
 
+is-a-requires-2 : tie.Need-is-a-requires-2
+is-a-requires-2 c κs = search needs
+
 returns : tie.Need-returns
 returns c = cc
 
 pub no-kind-spec : {M : Type 1} → statement M
-no-kind-spec = tie.close (tie.spec is-rack-requires is-a-requires returns)
+no-kind-spec = tie.close (tie.spec is-rack-requires is-a-requires is-a-requires-2 returns)

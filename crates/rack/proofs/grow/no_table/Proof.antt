@@ -3,6 +3,9 @@ use borrow.Author.Needs.{needs}
 use Rattle.rack.proofs.grow.no_table.Statement.{statement}
 use Rattle.rack.proofs.grow.no_table.Tie as tie
 
+memory-of-requires : tie.Need-memory-of-requires
+memory-of-requires c κs = search needs
+
 array-write-table : tie.Need-array-write-table
 array-write-table c = search needs
 
@@ -10,7 +13,8 @@ array-write-table-2 : tie.Need-array-write-table-2
 array-write-table-2 c = search needs
 
 returns : tie.Need-returns
-returns c = none-held (c .args .host)
+returns c = search (none-held, needs)
 
 pub no-table-spec : {M : Type 1} → statement M
-no-table-spec = tie.close (tie.spec array-write-table array-write-table-2 returns)
+no-table-spec =
+    tie.close (tie.spec memory-of-requires array-write-table array-write-table-2 returns)

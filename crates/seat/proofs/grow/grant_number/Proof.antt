@@ -8,9 +8,6 @@ cast-result c = search needs
 add-result : tie.Need-add-result
 add-result c = search needs
 
-cast-result-2 : tie.Need-cast-result-2
-cast-result-2 c = search needs
-
 returns : tie.Need-returns
 returns c = (simp (c .before .if1 .taken), search needs)
 
@@ -18,4 +15,4 @@ returns-2 : tie.Need-returns-2
 returns-2 c = (search needs, search needs)
 
 pub grant-number-spec : {M : Type 1} → statement M
-grant-number-spec = tie.close (tie.spec cast-result add-result cast-result-2 returns returns-2)
+grant-number-spec = tie.close (tie.spec cast-result add-result returns returns-2)

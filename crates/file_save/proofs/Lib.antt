@@ -1,0 +1,4 @@
+-- What the functions' proofs use.
+mod Puts
+mod Records
+mod Whole

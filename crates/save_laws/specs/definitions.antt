@@ -1,0 +1,4 @@
+pub mod Said
+pub mod After
+pub mod Content
+pub mod Listed

@@ -1,0 +1,17 @@
+pub mod Here
+pub mod Goes
+pub mod Records
+pub mod Trees
+pub mod Nodes
+pub mod Seats
+pub mod Registers
+pub mod ReadBack
+pub mod Events
+pub mod Views
+pub mod Start
+pub mod Decoded
+pub mod Loaded
+pub mod OneForm
+pub mod Content
+pub mod Listed
+pub mod Output

@@ -1,0 +1,1 @@
+// Theorems alone: what is read from a saved file.
