@@ -12,6 +12,10 @@
  * No call keeps a pointer or any state. All of them may run side by side in threads, as long as nobody else reads or writes meanwhile
  * what one of them writes: `answer`, both images in rack_run, rack_reset and rack_open, and the buffer in rack_save.
  *
+ * A bridge whose RACK_CONTROL_BUS_RESET is set holds every node below it at reset. The images have to agree with that: all 64 registers
+ * of a held node have their reset values, status bits too. Every call that reads images refuses others with 18, straight after 12; those
+ * that a call leaves or fills agree.
+ *
  * rack_grant stands apart: a step of a bus arbiter, which has no rack and no image.
  */
 #ifndef MUZGANTE_RACK_H
@@ -24,9 +28,10 @@
 extern "C" {
 #endif
 
-/* Goes up where a prototype or a number below changes, or a call is new: rack_grant is there from 2 on, the seat that rack_run is
- * told from 3 on, rack_save and rack_open from 4 on. A new name for a new number leaves it as it is. */
-#define RACK_VERSION 4
+/* Goes up where a prototype or a number below changes, a call is new or changes other bytes than before: rack_grant is there from 2 on,
+ * the seat that rack_run is told from 3 on, rack_save and rack_open from 4 on, and from 5 on a write to a bridge can change the nodes
+ * below it. A new name for a new number leaves it as it is. */
+#define RACK_VERSION 5
 
 /* Limits. */
 enum {
@@ -65,6 +70,11 @@ enum {
     RACK_KIND_OLDER_BRIDGE = 13 /* a rack record: a bridge without 32-bit I/O, 64-bit prefetchable memory and VGA 16-bit decode */
 };
 
+/* Bridge control, a byte of a bridge's registers, and its bit 6, the secondary bus reset. A write that sets the bit puts every node below,
+ * at every depth, back to reset; while it is set they are held there: they claim nothing and drive nothing, configuration finds none of
+ * them, and an access that one of them starts is silent. The bridge keeps its own registers and goes on claiming. */
+enum { RACK_CONTROL_AT = 0x3E, RACK_CONTROL_BUS_RESET = 0x40 };
+
 /* The device and function of a special cycle: a configuration write to register 0 there, whatever its byte enables and data. */
 enum { RACK_DEVFN_SPECIAL_CYCLE = 8 * 31 + 7 };
 
@@ -84,7 +94,8 @@ enum {
     RACK_BODY_OLDER_BRIDGE = 6 /* as a bridge's */
 };
 
-/* Refusals, in the order in which they are looked for; 'files alone' is in rackrun and rack_open. */
+/* Refusals, in the order in which they are looked for, but that a call gives 18 straight after 12; 'files alone' is in rackrun and
+ * rack_open. */
 enum {
     RACK_REFUSED_TOO_LONG = 1,         /* more than 65,536 bytes of rack or file */
     RACK_REFUSED_KIND = 2,             /* not 1 to 3, 9 or 13 in a rack, 1 to 11 or 13 in a file, 4 to 8 or 10 in an event; no event byte */
@@ -103,6 +114,7 @@ enum {
     RACK_REFUSED_SEAT = 15,            /* a seat other than 0 without a record, as the acting seat or in a seat event */
     RACK_REFUSED_REGISTERS_NODE = 16,  /* files alone: a register record for a missing node, or for one not above the one before */
     RACK_REFUSED_REGISTERS_VALUE = 17, /* files alone: a register record that equals reset, or changes a fixed bit */
+    RACK_REFUSED_HELD = 18,            /* a held node that is not at reset; in a file it is that node's register record */
     RACK_REFUSED_ARBITER = 20          /* rack_grant alone: a bit above 9, or a state that names a place its ring lacks */
 };
 
@@ -115,7 +127,7 @@ enum {
     RACK_ENDED_HOST = 4,      /* crossings, offset from the host's first address */
     RACK_ENDED_UNCLAIMED = 5, /* crossings, holder, one of RACK_OUTCOME_.. */
     RACK_ENDED_CLASH = 6,     /* crossings, holder, the first two claimants */
-    RACK_ENDED_SILENT = 7,    /* nothing: the initiator may not drive its bus */
+    RACK_ENDED_SILENT = 7,    /* nothing: the initiator may not drive its bus, or is held */
     RACK_ENDED_PASS = 8,      /* nothing: no two agents claim one address */
     RACK_ENDED_FAULT = 9,     /* holder, one of RACK_SPACE_.., the address or bus number, driver, the first two claimants */
     RACK_ENDED_DENIED = 10,   /* crossings: the seat may not write that register of the node it reached, and nothing was stored */
@@ -149,7 +161,10 @@ enum {
 };
 
 /* One event (a record of kind 4 to 8 or 10) on the rack by the acting seat: how it ends, and both images as it leaves them. A seat event
- * changes nothing: the call keeps no seat, so its caller passes the new one next time. */
+ * changes nothing: the call keeps no seat, so its caller passes the new one next time.
+ *
+ * A write that is stored changes registers of the node that it reached; one that leaves RACK_CONTROL_BUS_RESET set in a bridge puts all
+ * nodes below it to reset too, also those that the seat may not write. */
 uint8_t rack_run(const uint8_t *rack, size_t rack_count, uint8_t seat, const uint8_t *event, size_t event_count, uint8_t *bridges,
                  size_t bridges_count, uint8_t *devices, size_t devices_count, uint64_t answer[RACK_ANSWER_NUMBERS]);
 
@@ -157,17 +172,17 @@ uint8_t rack_run(const uint8_t *rack, size_t rack_count, uint8_t seat, const uin
 uint8_t rack_check(const uint8_t *rack, size_t rack_count, const uint8_t *bridges, size_t bridges_count, const uint8_t *devices,
                    size_t devices_count, uint64_t answer[RACK_ANSWER_NUMBERS]);
 
-/* Fills both images with the values at reset. Refused by 1 to 4, 6 to 10, 11 and 14. */
+/* Fills both images with the values at reset, whatever they held: nothing is held then. Refused by 1 to 4, 6 to 10, 11 and 14. */
 uint8_t rack_reset(const uint8_t *rack, size_t rack_count, uint8_t *bridges, size_t bridges_count, uint8_t *devices,
                    size_t devices_count);
 
 /* Writes the rack with these registers to `buffer` as a rack file; answer[0] is how many bytes it has, at most RACK_MOST_SAVED_BYTES.
  *
  * The file has one form: the host (without memory as first 1, last 0), the nodes, the seat records by seat and then node, and by node a
- * register record for each node that differs from reset. So two racks with equal content have the same file, byte for byte. What stands
- * in the buffer past the file stays.
+ * register record for each node that differs from reset, so none for a node that is held. So two racks with equal content have the same
+ * file, byte for byte. What stands in the buffer past the file stays.
  *
- * Refused by 1 to 4, 6 to 10, 11, 12 and 14, and then by 11 where the buffer is too short. */
+ * Refused by 1 to 4, 6 to 10, 11, 12, 18 and 14, and then by 11 where the buffer is too short. */
 uint8_t rack_save(const uint8_t *rack, size_t rack_count, const uint8_t *bridges, size_t bridges_count, const uint8_t *devices,
                   size_t devices_count, uint8_t *buffer, size_t buffer_count, uint64_t answer[RACK_ANSWER_NUMBERS]);
 
@@ -177,7 +192,7 @@ uint8_t rack_save(const uint8_t *rack, size_t rack_count, const uint8_t *bridges
  * answer[0] is how many bytes stand before the first register record or event: the rack that the other calls take. answer[1] is the
  * count of bridges and answer[2] that of devices.
  *
- * Refused as a file is, by 1 to 10 and 13 to 17, its events too, and then by 11. With 11 both counts are given all the same, and
+ * Refused as a file is, by 1 to 10 and 13 to 18, its events too, and then by 11. With 11 both counts are given all the same, and
  * answer[0] is 0: a caller that does not know how long the images have to be asks first with images of no bytes. */
 uint8_t rack_open(const uint8_t *file, size_t file_count, uint8_t *bridges, size_t bridges_count, uint8_t *devices,
                   size_t devices_count, uint64_t answer[RACK_ANSWER_NUMBERS]);
@@ -222,6 +237,7 @@ static inline const char *rack_refusal_text(unsigned refusal)
     case RACK_REFUSED_SEAT: return "the seat has no record";
     case RACK_REFUSED_REGISTERS_NODE: return "a register record names a node that is missing, or not above the one before";
     case RACK_REFUSED_REGISTERS_VALUE: return "a register record has its node's reset values, or changes a fixed bit";
+    case RACK_REFUSED_HELD: return "below a bridge whose bus reset (bridge control bit 6) is set, a register differs from its reset value";
     case RACK_REFUSED_ARBITER: return "a mask or request set has a bit above 9, or a state names a place its ring lacks";
     default: return "no refusal has this number";
     }

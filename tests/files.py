@@ -2,18 +2,20 @@
 faults at once."""
 import subprocess
 
-from racks import BRIDGE, BRIDGES, CHECK, DEVICE, DWORDS, EXPONENTS, HOST, NODES, NODE_BYTES, OLDER_BRIDGE, OPTIONS, REGISTERS, SEAT, SEATS
-from racks import WRITE, Firmware, Node, Registers, configuration, events, grant, header, memory, random_rack, read, register_record
-from racks import seat_event, seat_record, special_cycle, take_turns, write, written
+from racks import BRIDGE, BRIDGES, BUSES, CHECK, COMMAND, CONTROL, DEVICE, DWORDS, EXPONENTS, HOST, IO_WINDOW, MEMORY, NODES, NODE_BYTES
+from racks import OLDER_BRIDGE, OPTIONS, REGISTERS, RESETS, SEAT, SEATS, WRITE, Firmware, Node, Registers, bits, configuration, events
+from racks import grant, header, hold, memory, random_rack, read, register_record, seat_event, seat_record, special_cycle, take_turns
+from racks import write, written
 
 MOST = 65536
 WITH_SEATS = 0.4  # the share of racks that have seats
 WITH_REGISTERS = 0.35  # and of those whose run starts from register records
+WITH_HELD = 0.3  # and, of these, of those that start with a held branch
 
 
 def begun(rng, rack, firmware, odd, share=WITH_REGISTERS):
     """The registers that a run starts from, and the events that do the rest of what firmware does: all of it from reset, or that of the
-    nodes whose registers are not kept. Some nodes may have any bits."""
+    nodes whose registers are not kept. Some nodes may have any bits, and a branch may be held."""
     registers, settings = Registers(rack), firmware.settings(rng, odd)
     if not rack.nodes or rng.random() >= share:
         return registers, [firmware.write(*setting) for setting in settings]
@@ -24,15 +26,17 @@ def begun(rng, rack, firmware, odd, share=WITH_REGISTERS):
             registers.put(*setting)
     for i in rng.sample(range(count), rng.choice((0, 0, 0, 1, min(count, 3), count))):
         registers.shuffle(rng, i)
+    if rng.random() < WITH_HELD:
+        hold(rng, registers)
+    registers.agree()
     return registers, [firmware.write(*setting) for setting in settings if setting[0] not in kept]
 
 
-def whole(rng, rack, firmware, registers, later):
+def whole(rng, rack, firmware, kept, later):
     """The records of a rack and its events, with or without seats; with register records the rack is often as the writer gives it."""
     if rack.nodes and rng.random() < WITH_SEATS:
         grant(rng, rack, written(rack, firmware, later))
         take_turns(rng, rack, firmware, later)
-    kept = registers.records()
     return (rack.saved() if kept and rng.random() < 0.6 else rack.records()) + kept, later
 
 
@@ -40,18 +44,36 @@ def configured(rng, bridges, devices, shape, count, checks, odd, share=WITH_REGI
     rack = random_rack(rng, bridges, devices, shape)
     firmware = Firmware(rack)
     registers, writes = begun(rng, rack, firmware, odd, share)
-    return whole(rng, rack, firmware, registers, writes + events(rng, rack, firmware, count, checks))
+    return whole(rng, rack, firmware, registers.records(), writes + events(rng, rack, firmware, count, checks))
+
+
+def each_resets(rng, rack, firmware):
+    """Every bridge resets what is below it, the last one first, so that there are resets at each depth."""
+    both = lambda i: [firmware.write(i, CONTROL, 4, RESETS << 16), read(*firmware.target(i), rng.choice((CONTROL, IO_WINDOW)))]
+    return [event for i in reversed(rack.bridges()) for event in both(i)]
+
+
+def one_resets(rng, rack, firmware):
+    """A bridge far up resets all below it and lets go. Then only bus numbers are written there, and registers read of each node."""
+    bridges = rack.bridges()
+    i = rng.choice(bridges[: len(bridges) // 2])
+    below = rack.below(i)
+    numbered = [(k, BUSES) for k in below if k in bridges]
+    out = [firmware.write(i, CONTROL, 4, bit << 16) for bit in (RESETS, 0)]
+    out += [firmware.write(*setting) for setting in firmware.settings(rng, 0) if setting[:2] in numbered]
+    return out + [read(*firmware.target(k), rng.choice((COMMAND, 0x10, MEMORY, 0x1C))) for k in below]
 
 
 def deep(rng):
-    """Up to 32 bridges in a row; a read and a special cycle on every bus, so that each count of crossings occurs."""
+    """Up to 32 bridges in a row; a read and a special cycle on every bus, so that each count of crossings occurs. Then mostly bus resets."""
     depth = 32 if rng.random() < 0.5 else rng.randint(2, 31)
     rack = random_rack(rng, depth, rng.randint(1, 12), "chain")
     firmware = Firmware(rack)
     registers, out = begun(rng, rack, firmware, rng.choice((0, 0, 0.02)))
     for bus in range(depth + 2):
         out += [read(bus, rng.choice((0, 8, 16, 0x78)), 0), special_cycle(rng, bus)]
-    return whole(rng, rack, firmware, registers, out + events(rng, rack, firmware, 40, rng.randint(0, 1)))
+    out += rng.choice((each_resets, each_resets, one_resets, lambda *_: []))(rng, rack, firmware)
+    return whole(rng, rack, firmware, registers.records(), out + events(rng, rack, firmware, 40, rng.randint(0, 1)))
 
 
 def full(rng):
@@ -73,19 +95,20 @@ def wild(rng):
     registers, out = begun(rng, rack, firmware, 0.5)
     out += [configuration(rng, rack, firmware) for _ in range(60)]
     rng.shuffle(out)
-    return whole(rng, rack, firmware, registers, out + events(rng, rack, firmware, 20, 2))
+    return whole(rng, rack, firmware, registers.records(), out + events(rng, rack, firmware, 20, 2))
 
 
 def options(rng):
-    """Every register that an option of a bridge changes, written with all ones and read back in each bridge, then put right."""
+    """Every register that an option of a bridge changes, written with all ones and read back in each bridge, then put right. A bridge comes
+    behind those below it, which it resets where all ones are written to bridge control."""
     rack = random_rack(rng, rng.randint(1, 6), rng.randint(0, 4), "any")
     firmware = Firmware(rack)
     registers, out = begun(rng, rack, firmware, 0)
-    for i in rack.bridges():
+    for i in reversed(rack.bridges()):
         for register in rng.sample(OPTIONS, rng.randint(1, len(OPTIONS))):
             out += [write(*firmware.target(i), register, 15, 0xFFFFFFFF), read(*firmware.target(i), register)]
     out += events(rng, rack, firmware, 20, 1) + firmware.writes(rng, 0) + events(rng, rack, firmware, 20, 1)
-    return whole(rng, rack, firmware, registers, out)
+    return whole(rng, rack, firmware, registers.records(), out)
 
 
 def bare(rng):
@@ -105,7 +128,7 @@ def looked_at(rng):
     look = [read(*firmware.target(i), 4 * rng.randrange(DWORDS)) for i in range(len(rack.nodes))]
     look += [event for event in events(rng, rack, firmware, 30, 1) if event[0] != WRITE]
     rng.shuffle(look)
-    return whole(rng, rack, firmware, registers, look + writes + events(rng, rack, firmware, 20, 1))
+    return whole(rng, rack, firmware, registers.records(), look + writes + events(rng, rack, firmware, 20, 1))
 
 
 def too_many(rng):
@@ -157,10 +180,6 @@ def seat_fault(rng, rack, later):
     ))()
 
 
-def bits(part):
-    return [bit for bit in range(8 * NODE_BYTES) if part[bit // 8] >> bit % 8 & 1]
-
-
 def changeable():
     """The bits that some node may change, of a bridge or of a device with the smallest regions of a kind."""
     devices = [Node(DEVICE, HOST, 0, [(kind, least)] * 3) for kind, (least, _) in EXPONENTS.items()]
@@ -168,12 +187,14 @@ def changeable():
 
 
 CHANGEABLE = changeable()
+CHANGEABLE_OF_BRIDGES = set(bits(header(Node(BRIDGE, HOST, 0))[0]))
 
 
 def with_fixed_bit(rng, node, part):
-    """A node's registers with a fixed bit changed, often one that another node may change."""
+    """A node's registers with a fixed bit changed, often one that another node may change, or another kind of bridge."""
     fixed = sorted(set(range(8 * NODE_BYTES)) - set(bits(header(node)[0])))
-    bit = rng.choice(rng.choice((fixed, [bit for bit in fixed if bit in CHANGEABLE])))
+    lacked = [bit for bit in fixed if bit in CHANGEABLE_OF_BRIDGES] if node.is_bridge else []
+    bit = rng.choice(rng.choice((fixed, [bit for bit in fixed if bit in CHANGEABLE], lacked or fixed)))
     return part[: bit // 8] + bytes([part[bit // 8] ^ 1 << bit % 8]) + part[bit // 8 + 1 :]
 
 
@@ -228,6 +249,38 @@ def register_broken(rng):
     return rack, later
 
 
+def held_broken(rng):
+    """Register records below a set bit 6: of one held node or of all, right in themselves or with another fault too; seldom the bridge
+    itself stands behind them."""
+    rack = random_rack(rng, rng.randint(1, 6), rng.randint(1, 6), rng.choice(("any", "chain", "chain")))
+    firmware = Firmware(rack)
+    registers, later = begun(rng, rack, firmware, 0.1, share=1)
+    hold(rng, registers)
+    held = registers.held()
+    if not held:
+        return kept(rng)
+    if rng.random() < 0.3:
+        for setting in firmware.settings(rng, 0):
+            if setting[0] in held:
+                registers.put(*setting)
+    else:
+        registers.disagree(rng)
+    records = registers.records()
+    at = rng.choice([at for at, record in enumerate(records) if record[1] in held])
+    node, part = records[at][1], records[at][2:]
+    behind = max([k for k, record in enumerate(records) if record[1] not in held], default=0)
+    rng.choice((
+        lambda: None,
+        lambda: None,
+        lambda: None,
+        lambda: records.insert(behind, records.pop(at)),  # behind a later node, if there is one
+        lambda: records.insert(at, register_record(node, registers.reset[node])),
+        lambda: records.insert(at, register_record(node, with_fixed_bit(rng, rack.nodes[node], part))),
+        lambda: records.insert(0, records.pop(at)),  # in front of its bridge
+    ))()
+    return whole(rng, rack, firmware, records, later)
+
+
 def no_host(rng):
     """Another record in front of the host, or in its place."""
     rack, later = bare(rng)
@@ -274,8 +327,8 @@ def long(rng):
 
 WHOLE = ((small, 30), (wild, 20), (deep, 8), (full, 3), (wide, 8), (options, 4), (bare, 6), (looked_at, 12), (long, 1.5))
 BROKEN = (
-    *((too_many, 3), (broken, 22), (seat_broken, 10), (register_broken, 20), (no_host, 2), (seat_cut, 2), (register_cut, 4)),
-    *((mangled, 8), (cut, 5)),
+    *((too_many, 3), (broken, 22), (seat_broken, 10), (register_broken, 22), (held_broken, 16), (no_host, 2), (seat_cut, 2)),
+    *((register_cut, 4), (mangled, 8), (cut, 5)),
 )
 
 

@@ -2,10 +2,13 @@
  *
  * An input is one call of a script (CALLS.md, operations 8 to 12, 14 and 15), its counts cut to the bytes that are there. Every buffer ends
  * at a page that may not be touched: the archive is not compiled with a sanitizer, and a step past a buffer's end is seen all the same.
- * What a call promises in general is looked at: 0 or the number of a refusal; on a refusal all 0, and both images and the lent buffer
- * untouched; a denied write leaves both images too, and the event of a seat other than 0 leaves what the seat may not write, but for
- * status bits; a saved file fits its buffer and leaves what is past it, a byte less refuses it, it opens to the registers that were saved,
- * and saved again it has the same bytes; a step of the arbiter grants a requester, and the next step takes the state that it gives.
+ * What a call promises in general is looked at: 0 or the number of a refusal that it has; on a refusal all 0, and both images and the lent
+ * buffer untouched. 18 is given where a node below a set bit 6 is not at reset, and images that a call takes or leaves are never so. An
+ * event leaves both images, but for an unclaimed one, which sets status bits, and a stored one, which changes one dword that its seat may
+ * write, and where it sets bit 6 of bridge control also the nodes below, which are then at reset. A held device is silent, and no held
+ * node owns, claims or drives. A saved file fits its buffer and leaves what is past it, a byte less refuses it, it opens to the registers
+ * that were saved, and saved again it has the same bytes; a step of the arbiter grants a requester, and the next step takes the state that
+ * it gives.
  *
  *     clang -g -O1 -fsanitize=fuzzer,address tests/fuzz.c -Ltarget/staticlib -lmuzgante     (libFuzzer)
  *     tests/fuzz [CALLS [SEED]]                                                             (gcc, the driver below)
@@ -23,11 +26,13 @@ int LLVMFuzzerTestOneInput(const uint8_t *input, size_t size);
 
 enum { HEAD = 18, ROOM = 1 << 18, ANSWER_BYTES = 8 * RACK_ANSWER_NUMBERS, MOST_LENT = 16384 };
 
-/* What a call is given, then its answer, two lent buffers, and what two files are opened with: each a file and both images. */
-enum { RACK, EVENT, BRIDGES, DEVICES, PARTS, ANSWER = PARTS, LENT, AGAIN, OPENED, REOPENED = OPENED + 3, ROOMS = REOPENED + 3 };
+/* What a call is given, then its answer, two lent buffers, two images at reset, and what two files are opened with: each a file and both
+ * images. */
+enum { RACK, EVENT, BRIDGES, DEVICES, PARTS, ANSWER = PARTS, LENT, AGAIN, FRESH, OPENED = FRESH + 2, REOPENED = OPENED + 3,
+       ROOMS = REOPENED + 3 };
 
 /* Operations 8 to 15, modulo 8. */
-enum { RUN, CHECK, RESET, WINDOW, SAVE = 6, OPEN = 7 };
+enum { RUN, CHECK, RESET, WINDOW, STEP, SAVE = 6, OPEN = 7 };
 
 /* Where each of them ends: a guarded page begins there. */
 static uint8_t *ends[ROOMS];
@@ -94,62 +99,209 @@ static uint8_t step(const uint8_t *head, uint64_t answer[RACK_ANSWER_NUMBERS])
     return code;
 }
 
-/* A node, and what a seat may write of it: a bit for each dword. */
+/* Whether a refusal is one that the operation has. */
+static int is_refusal_of(int operation, uint8_t code)
+{
+    enum { BYTES = 0x7DE, LENGTH = 1 << 11, BITS = 1 << 12 | 1 << RACK_REFUSED_HELD, FIELD = 1 << 13, RECORD = 1 << 14, SEAT = 1 << 15 };
+    static const uint32_t refusals[] = {
+        [RUN] = BYTES | LENGTH | BITS | FIELD | RECORD | SEAT,
+        [CHECK] = BYTES | LENGTH | BITS | RECORD,
+        [RESET] = BYTES | LENGTH | RECORD,
+        [WINDOW] = BYTES | LENGTH | BITS | FIELD | RECORD,
+        [STEP] = 1 << RACK_REFUSED_ARBITER,
+        [STEP + 1] = 1 << RACK_REFUSED_ARBITER,
+        [SAVE] = BYTES | LENGTH | BITS | RECORD,
+        [OPEN] = BYTES | 1 << 5 | LENGTH | FIELD | RECORD | SEAT | 1 << 16 | 1 << 17 | 1 << RACK_REFUSED_HELD,
+    };
+    return code < 32 && (refusals[operation] >> code & 1) == 1;
+}
+
+/* A node, and what a seat may write of it: a bit for each dword. Its registers now, before the call and at reset. */
 struct node {
     int is_bridge;
+    uint8_t parent;
     unsigned grant;
+    const uint8_t *now, *before, *fresh;
+};
+
+struct nodes {
+    size_t count;
+    struct node at[RACK_MOST_NODES];
 };
 
 /* The nodes of a rack that a call took, so its records are whole. */
-static size_t nodes_of(const uint8_t *rack, size_t count, uint8_t seat, struct node nodes[RACK_MOST_NODES])
+static void read_nodes(const uint8_t *rack, size_t count, uint8_t seat, struct nodes *nodes)
 {
     static const size_t body[] = {[RACK_KIND_HOST] = RACK_BODY_HOST, [RACK_KIND_BRIDGE] = RACK_BODY_BRIDGE,
         [RACK_KIND_DEVICE] = RACK_BODY_DEVICE, [RACK_KIND_SEAT] = RACK_BODY_SEAT, [RACK_KIND_OLDER_BRIDGE] = RACK_BODY_OLDER_BRIDGE};
-    size_t found = 0;
+    nodes->count = 0;
     for (size_t at = 0; at < count; at += 1 + body[rack[at]]) {
         const uint8_t *record = rack + at;
         if (record[0] == RACK_KIND_SEAT) {
-            expect(record[2] < found, "a seat record was taken before its node");
-            nodes[record[2]].grant |= record[1] == seat ? (unsigned)number(record + 3, 2) : 0;
+            expect(record[2] < nodes->count, "a seat record was taken before its node");
+            nodes->at[record[2]].grant |= record[1] == seat ? (unsigned)number(record + 3, 2) : 0;
         } else if (record[0] != RACK_KIND_HOST) {
-            nodes[found++] = (struct node){record[0] != RACK_KIND_DEVICE, 0};
+            nodes->at[nodes->count++] = (struct node){.is_bridge = record[0] != RACK_KIND_DEVICE, .parent = record[1]};
         }
+    }
+}
+
+/* The rack's registers at reset, in rooms of their own. */
+static uint8_t reset_apart(const struct call *c)
+{
+    uint8_t *bridges = fill(FRESH, 0xA5, c->count[BRIDGES]), *devices = fill(FRESH + 1, 0xA5, c->count[DEVICES]);
+    return rack_reset(c->at[RACK], c->count[RACK], bridges, c->count[BRIDGES], devices, c->count[DEVICES]);
+}
+
+/* The nodes of a call whose rack was taken and reset, with their registers: `before` is both images as they were. */
+static struct nodes nodes_of(const struct call *c, const uint8_t *const before[2])
+{
+    struct nodes nodes;
+    const uint8_t *const fresh[] = {ends[FRESH] - c->count[BRIDGES], ends[FRESH + 1] - c->count[DEVICES]};
+    read_nodes(c->at[RACK], c->count[RACK], c->head[11], &nodes);
+    size_t next[2] = {0, 0};
+    for (size_t i = 0; i < nodes.count; i++) {
+        struct node *node = &nodes.at[i];
+        int image = node->is_bridge ? 0 : 1;
+        node->now = c->at[BRIDGES + image] + next[image];
+        node->before = before[image] + next[image];
+        node->fresh = fresh[image] + next[image];
+        next[image] += RACK_NODE_BYTES;
+    }
+    return nodes;
+}
+
+static int is_same(const uint8_t *a, const uint8_t *b) { return memcmp(a, b, RACK_NODE_BYTES) == 0; }
+
+static int resets(const struct node *node, const uint8_t *registers)
+{
+    return node->is_bridge && (registers[RACK_CONTROL_AT] & RACK_CONTROL_BUS_RESET) != 0;
+}
+
+static int is_below(const struct nodes *nodes, uint64_t i, uint64_t bridge)
+{
+    while (i != RACK_NODE_HOST && (i = nodes->at[i].parent) != bridge) {
+    }
+    return i == bridge;
+}
+
+/* Whether a node has a bridge above it whose bit 6 was set; the host has none. */
+static int was_held(const struct nodes *nodes, uint64_t i)
+{
+    while (i != RACK_NODE_HOST && (i = nodes->at[i].parent) != RACK_NODE_HOST) {
+        if (resets(&nodes->at[i], nodes->at[i].before)) {
+            return 1;
+        }
+    }
+    return 0;
+}
+
+/* Whether all that was held was at reset. */
+static int agreed(const struct nodes *nodes)
+{
+    for (size_t i = 0; i < nodes->count; i++) {
+        if (was_held(nodes, i) && !is_same(nodes->at[i].before, nodes->at[i].fresh)) {
+            return 0;
+        }
+    }
+    return 1;
+}
+
+/* The bits of a register byte that are status bits. */
+static unsigned status(const struct node *node, size_t byte) { return byte == 0x07 || (node->is_bridge && byte == 0x1F) ? 0xF9 : 0; }
+
+/* An unclaimed access sets status bits, and changes nothing else. */
+static void look_at_unclaimed(const struct node *node)
+{
+    for (size_t byte = 0; byte < RACK_NODE_BYTES; byte++) {
+        unsigned now = node->now[byte], before = node->before[byte];
+        expect((now & before) == before && (now & ~before & ~status(node, byte)) == 0, "an access changed more than status bits");
+    }
+}
+
+/* The node that a write changed, or that it set bit 6 of; else the host. */
+static size_t written(const struct nodes *nodes)
+{
+    size_t found = RACK_NODE_HOST;
+    for (size_t i = 0; i < nodes->count; i++) {
+        const struct node *node = &nodes->at[i];
+        if (resets(node, node->now) && !resets(node, node->before)) {
+            return i;
+        }
+        found = is_same(node->now, node->before) ? found : i;
     }
     return found;
 }
 
-/* The bits of a register byte that are not status bits, which any event may set. */
-static unsigned kept(int is_bridge, size_t byte) { return byte == 0x07 || (is_bridge && byte == 0x1F) ? 0xFFu & ~0xF9u : 0xFF; }
-
-static void stays(struct node node, const uint8_t *now, const uint8_t *before)
+/* A stored write changes one dword of one node; what is below is at reset where it has set bit 6, and all others are as they were. */
+static void look_at_stored(const struct nodes *nodes, uint8_t seat, uint8_t dword)
 {
+    size_t target = written(nodes);
+    if (target == RACK_NODE_HOST) {
+        return;
+    }
+    const struct node *node = &nodes->at[target];
+    expect(!was_held(nodes, target), "a held node was written");
+    expect(seat == RACK_SEAT_ALL || (node->grant >> dword & 1) == 1, "a seat wrote what it may not");
     for (size_t byte = 0; byte < RACK_NODE_BYTES; byte++) {
-        int may_write = (node.grant >> byte / 4 & 1) == 1;
-        expect(may_write || ((now[byte] ^ before[byte]) & kept(node.is_bridge, byte)) == 0, "a seat wrote what it may not");
+        expect(byte / 4 == dword || node->now[byte] == node->before[byte], "a write changed another register");
+    }
+    int is_reset = resets(node, node->now) && !resets(node, node->before);
+    for (size_t i = 0; i < nodes->count; i++) {
+        const struct node *other = &nodes->at[i];
+        int goes = is_reset && is_below(nodes, i, target);
+        int is_right = i == target || is_same(other->now, goes ? other->fresh : other->before);
+        expect(is_right, goes ? "a node below a bus reset is not at reset" : "a write changed another node");
     }
 }
 
-/* What an event of this seat left of both images, beside what they were. */
-static void within_grants(const struct node *nodes, size_t count, const uint8_t *const now[2], const uint8_t *const before[2])
+static void look_at_fault(const struct nodes *nodes, const uint64_t *answer)
 {
-    size_t next[2] = {0, 0};
-    for (size_t i = 0; i < count; i++) {
-        int image = nodes[i].is_bridge ? 0 : 1;
-        stays(nodes[i], now[image] + next[image], before[image] + next[image]);
-        next[image] += RACK_NODE_BYTES;
+    for (int i = 4; i <= 6; i++) {
+        expect(!was_held(nodes, answer[i]), "a held node is a driver or claimant of a fault");
     }
 }
 
-static void look_at_run(const struct call *c, const uint64_t *answer, int is_same)
+static void look_at_run(const struct call *c, const struct nodes *nodes, const uint64_t *answer, int is_as_before)
 {
-    uint8_t seat = c->head[11];
-    int is_quiet = answer[0] == RACK_ENDED_DENIED || answer[0] == RACK_ENDED_SEAT;
-    expect(is_same || !is_quiet, "a denied write or a seat event changed an image");
-    expect(seat != RACK_SEAT_ALL || answer[0] != RACK_ENDED_DENIED, "a write of seat 0 was denied");
-    if (seat != RACK_SEAT_ALL) {
-        struct node nodes[RACK_MOST_NODES];
-        const uint8_t *const now[] = {c->at[BRIDGES], c->at[DEVICES]}, *const before[] = {c->from[BRIDGES], c->from[DEVICES]};
-        within_grants(nodes, nodes_of(c->at[RACK], c->count[RACK], seat, nodes), now, before);
+    const uint8_t *event = c->at[EVENT];
+    int is_access = event[0] == RACK_KIND_MEMORY || event[0] == RACK_KIND_IO;
+    expect(is_as_before || answer[0] == RACK_ENDED_STORED || answer[0] == RACK_ENDED_UNCLAIMED, "an event changed an image");
+    expect(c->head[11] != RACK_SEAT_ALL || answer[0] != RACK_ENDED_DENIED, "a write of seat 0 was denied");
+    expect(!is_access || !was_held(nodes, event[1]) || answer[0] == RACK_ENDED_SILENT, "a held device was not silent");
+    if (answer[0] == RACK_ENDED_STORED) {
+        look_at_stored(nodes, c->head[11], event[3] / 4);
+    } else if (answer[0] == RACK_ENDED_UNCLAIMED) {
+        for (size_t i = 0; i < nodes->count; i++) {
+            look_at_unclaimed(&nodes->at[i]);
+        }
+    } else if (answer[0] == RACK_ENDED_FAULT) {
+        look_at_fault(nodes, answer);
+    }
+    int is_named = answer[0] == RACK_ENDED_OWNER || answer[0] == RACK_ENDED_CLASH;
+    expect(!is_named || !was_held(nodes, answer[2]), "a held node owns an access, or its bus has a clash");
+    for (int i = 3; i <= 4 && answer[0] == RACK_ENDED_CLASH; i++) {
+        expect(!was_held(nodes, answer[i]), "a held node claims");
+    }
+}
+
+/* What a call over images promises that took them, or that refused them because they disagree. */
+static void look_at_images(const struct call *c, uint8_t code, int operation, const uint64_t *answer, int is_as_before)
+{
+    uint8_t reset = reset_apart(c);
+    expect(reset == 0 || (code != 0 && reset == RACK_REFUSED_SEAT_RECORD), "a rack that was taken cannot be reset");
+    if (reset != 0) {
+        return;
+    }
+    struct nodes nodes = nodes_of(c, &c->from[BRIDGES]);
+    expect(agreed(&nodes) == (code == 0), "images that disagree are taken, or others refused");
+    if (code == 0 && operation == RUN) {
+        look_at_run(c, &nodes, answer, is_as_before);
+        const uint8_t *const now[] = {c->at[BRIDGES], c->at[DEVICES]};
+        nodes = nodes_of(c, now);
+        expect(agreed(&nodes), "an event leaves images that disagree");
+    } else if (code == 0 && operation == CHECK && answer[0] == RACK_ENDED_FAULT) {
+        look_at_fault(&nodes, answer);
     }
 }
 
@@ -290,17 +442,19 @@ int LLVMFuzzerTestOneInput(const uint8_t *input, size_t size)
     }
     struct call c = call_of(input, size);
     uint64_t *answer = (uint64_t *)(void *)fill(ANSWER, 0xA5, ANSWER_BYTES), zeros[RACK_ANSWER_NUMBERS] = {0};
-    int operation = input[0] % 8, most = operation == OPEN ? RACK_REFUSED_REGISTERS_VALUE : RACK_REFUSED_SEAT;
+    int operation = input[0] % 8;
     uint8_t code = make(&c, answer);
-    expect(code <= most || code == RACK_REFUSED_ARBITER, "a number that is no refusal");
+    expect(code == 0 || is_refusal_of(operation, code), "a number that is no refusal of this call");
     expect(is_as_given(&c, RACK) && is_as_given(&c, EVENT), "the rack or the event was written");
-    int is_same = is_as_given(&c, BRIDGES) && is_as_given(&c, DEVICES);
-    expect(is_same || operation != SAVE, "saving changed an image");
+    int is_as_before = is_as_given(&c, BRIDGES) && is_as_given(&c, DEVICES);
+    expect(is_as_before || operation == RUN || operation == RESET || operation == OPEN, "a call changed an image that reads it alone");
     if (code != 0) {
         expect(memcmp(answer, zeros, ANSWER_BYTES) == 0, "a refused answer is not all 0");
-        expect(is_same, "a refusal changed an image");
-    } else if (operation == RUN) {
-        look_at_run(&c, answer, is_same);
+        expect(is_as_before, "a refusal changed an image");
+    }
+    int is_over_images = operation == RUN || operation == CHECK || operation == WINDOW || operation == SAVE;
+    if (is_over_images && (code == 0 || code == RACK_REFUSED_HELD)) {
+        look_at_images(&c, code, operation, answer, is_as_before);
     }
     return 0;
 }

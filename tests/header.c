@@ -430,6 +430,177 @@ static void registers_in_a_call(void)
     expect(rack_save(r.bytes, r.count, bridges, one, devices, one, check, 1, answer) == refused, "registers are taken by rack_save");
 }
 
+enum { BRANCH_BRIDGES = 2, BRANCH_DEVICES = 3 };
+
+/* Bridge 0 with an older bridge 1 below it, a device on the bus of each (2 and 3), and device 4 beside them on the root bus; both buses
+ * have numbers, 1 and 2, and every device is on. Seat 1 may write bridge control of bridge 0, seat 2 command of device 2. */
+static void start_branch(void)
+{
+    start(&r);
+    add_bridge(&r, RACK_NODE_HOST, 0);
+    add_older_bridge(&r, 0, 0);
+    add_device(&r, 1, 0);
+    add_device(&r, 0, 1);
+    add_device(&r, RACK_NODE_HOST, 1);
+    add_seat(&r, 1, 0, 1 << (RACK_CONTROL_AT / 4));
+    add_seat(&r, 2, 2, 1 << 1);
+    expect(reset(&r) == 0, "a rack of two bridges is refused");
+    bridges[0x19] = 1; /* secondary bus */
+    bridges[0x1A] = 2; /* subordinate bus */
+    bridges[RACK_NODE_BYTES + 0x19] = bridges[RACK_NODE_BYTES + 0x1A] = 2;
+    for (size_t i = 0; i < BRANCH_DEVICES; i++) {
+        devices[RACK_NODE_BYTES * i + 4] = 7; /* command */
+    }
+}
+
+/* Both images of the branch, and those that there would be with everything below bridge 0 at reset. */
+struct branch {
+    uint8_t bridges[RACK_NODE_BYTES * BRANCH_BRIDGES], devices[RACK_NODE_BYTES * BRANCH_DEVICES];
+};
+
+static struct branch branch_now(void)
+{
+    struct branch now;
+    memcpy(now.bridges, bridges, sizeof now.bridges);
+    memcpy(now.devices, devices, sizeof now.devices);
+    return now;
+}
+
+static struct branch branch_below_reset(void)
+{
+    struct branch whole = branch_now(), below = whole;
+    expect(reset(&r) == 0, "a branch cannot be reset");
+    memcpy(&below.bridges[RACK_NODE_BYTES], &bridges[RACK_NODE_BYTES], RACK_NODE_BYTES);
+    memcpy(below.devices, devices, 2 * RACK_NODE_BYTES);
+    memcpy(bridges, whole.bridges, sizeof whole.bridges);
+    memcpy(devices, whole.devices, sizeof whole.devices);
+    return below;
+}
+
+static int is_branch(const struct branch *b)
+{
+    return memcmp(b->bridges, bridges, sizeof b->bridges) == 0 && memcmp(b->devices, devices, sizeof b->devices) == 0;
+}
+
+/* A write of bridge control of bridge 0 that ends so. */
+static void write_control(uint8_t seat, uint8_t control, uint64_t ending)
+{
+    uint8_t event[1 + RACK_BODY_CONFIGURATION_WRITE] = {
+        RACK_KIND_CONFIGURATION_WRITE, 0, 0, RACK_CONTROL_AT - RACK_CONTROL_AT % 4, 1 << RACK_CONTROL_AT % 4};
+    uint64_t answer[RACK_ANSWER_NUMBERS];
+    event[5 + RACK_CONTROL_AT % 4] = control;
+    expect(run_as(&r, seat, event, sizeof event, answer) == 0 && answer[0] == ending, "a write of bridge control ends in another way");
+}
+
+/* The bit that is set puts all nodes below to reset, at every depth and also those that the seat may not write, and no other byte moves;
+ * clearing it moves none below. A denied write and every other bit reset nothing. */
+static void bus_reset(void)
+{
+    start_branch();
+    struct branch whole = branch_now(), below = branch_below_reset();
+    write_control(2, RACK_CONTROL_BUS_RESET, RACK_ENDED_DENIED);
+    expect(is_branch(&whole), "a denied write resets a bus");
+    write_control(1, 0x3F, RACK_ENDED_STORED);
+    whole.bridges[RACK_CONTROL_AT] = 0x3F;
+    expect(is_branch(&whole), "another bit of bridge control resets a bus");
+    write_control(1, RACK_CONTROL_BUS_RESET, RACK_ENDED_STORED);
+    below.bridges[RACK_CONTROL_AT] = RACK_CONTROL_BUS_RESET;
+    expect(is_branch(&below), "a bus reset leaves other registers");
+    write_control(1, 0, RACK_ENDED_STORED);
+    below.bridges[RACK_CONTROL_AT] = 0;
+    expect(is_branch(&below), "the end of a bus reset leaves other registers");
+}
+
+/* A held device is silent, configuration finds nobody, a special cycle is one all the same; once let go they are found. */
+static void held_nodes(void)
+{
+    uint64_t answer[RACK_ANSWER_NUMBERS];
+    uint8_t memory[1 + RACK_BODY_MEMORY] = {RACK_KIND_MEMORY, 3};
+    uint8_t read[1 + RACK_BODY_CONFIGURATION_READ] = {RACK_KIND_CONFIGURATION_READ, 1};
+    uint8_t special[1 + RACK_BODY_CONFIGURATION_WRITE] = {RACK_KIND_CONFIGURATION_WRITE, 1, RACK_DEVFN_SPECIAL_CYCLE};
+    start_branch();
+    write_control(RACK_SEAT_ALL, RACK_CONTROL_BUS_RESET, RACK_ENDED_STORED);
+    expect(run(&r, memory, sizeof memory, answer) == 0 && answer[0] == RACK_ENDED_SILENT, "a held device drives");
+    expect(run(&r, special, sizeof special, answer) == 0 && answer[0] == RACK_ENDED_SPECIAL && answer[2] == 0, "a special cycle is none");
+    expect(run(&r, read, sizeof read, answer) == 0 && answer[0] == RACK_ENDED_UNCLAIMED && answer[1] == 1 && answer[2] == 0,
+           "configuration finds a held bridge");
+    memory[1] = 4;
+    expect(run(&r, memory, sizeof memory, answer) == 0 && answer[0] == RACK_ENDED_HOST, "a device beside the branch is held");
+    write_control(RACK_SEAT_ALL, 0, RACK_ENDED_STORED);
+    expect(run(&r, read, sizeof read, answer) == 0 && answer[0] == RACK_ENDED_DATA, "configuration does not find a bridge that is let go");
+}
+
+/* Every call that reads images which break the agreement, with its own fields right and wrong: 18 is given after 12 and before 13 to 15 and
+ * a short buffer. rack_reset mends them. */
+static void expect_held(uint8_t refused)
+{
+    uint64_t answer[RACK_ANSWER_NUMBERS];
+    uint8_t check[] = {RACK_KIND_CHECK}, read[] = {RACK_KIND_CONFIGURATION_READ, 0, 0, 1}; /* 1 is no register */
+    uint8_t buffer[RACK_MOST_SAVED_BYTES];
+    const size_t two = RACK_NODE_BYTES * r.bridges, three = RACK_NODE_BYTES * r.devices;
+    struct branch given = branch_now();
+    expect(run(&r, check, sizeof check, answer) == refused, "rack_run takes a held node that is not at reset");
+    expect(run(&r, read, sizeof read, answer) == refused, "rack_run looks at a field before it looks at held nodes");
+    expect(run_as(&r, 9, check, sizeof check, answer) == refused, "rack_run looks at the seat before it looks at held nodes");
+    expect(rack_check(r.bytes, r.count, bridges, two, devices, three, answer) == refused, "rack_check takes one");
+    expect(rack_window(r.bytes, r.count, bridges, two, devices, three, 0, 0, answer) == refused, "rack_window takes one");
+    expect(rack_window(r.bytes, r.count, bridges, two, devices, three, 9, 0, answer) == refused, "rack_window looks for the node first");
+    memset(buffer, FILL, sizeof buffer);
+    expect(save(&r, buffer, sizeof buffer, answer) == refused && save(&r, buffer, 1, answer) == refused, "rack_save takes one");
+    expect(is_all(buffer, sizeof buffer, FILL) && is_all(answer, sizeof answer, 0) && is_branch(&given), "a refused call writes");
+}
+
+static void refused_held(void)
+{
+    static uint8_t *const below[] = {&bridges[RACK_NODE_BYTES + 0x19], &devices[7], &devices[RACK_NODE_BYTES + 4],
+        &bridges[RACK_NODE_BYTES + RACK_CONTROL_AT]};
+    static const uint8_t values[] = {2, 0x20, 7, RACK_CONTROL_BUS_RESET};
+    uint64_t answer[RACK_ANSWER_NUMBERS];
+    for (size_t i = 0; i < sizeof values; i++) {
+        start_branch();
+        write_control(RACK_SEAT_ALL, RACK_CONTROL_BUS_RESET, RACK_ENDED_STORED);
+        *below[i] = values[i];
+        expect_held(RACK_REFUSED_HELD);
+        devices[2 * RACK_NODE_BYTES]++; /* a fixed bit of device 4, which is not held */
+        expect_held(RACK_REFUSED_FIXED_BIT);
+        expect(reset(&r) == 0, "rack_reset looks at what the images held");
+        expect(rack_check(r.bytes, r.count, bridges, RACK_NODE_BYTES * r.bridges, devices, RACK_NODE_BYTES * r.devices, answer) == 0,
+               "rack_reset leaves a held node that is not at reset");
+    }
+}
+
+/* A rack that is saved while a bus is held has no registers of held nodes, and is opened as it was. With a record for a held node it is
+ * refused, after what is wrong with that record alone. */
+static void held_file(void)
+{
+    uint8_t buffer[RACK_MOST_SAVED_BYTES], low[RACK_NODE_BYTES];
+    uint64_t answer[RACK_ANSWER_NUMBERS];
+    start_branch();
+    write_control(RACK_SEAT_ALL, RACK_CONTROL_BUS_RESET, RACK_ENDED_STORED);
+    struct branch held = branch_now();
+    struct rack file = r;
+    add_registers(&file, 0, bridges);
+    struct rack front = file;
+    add_registers(&file, 4, &devices[2 * RACK_NODE_BYTES]);
+    expect(save(&r, buffer, sizeof buffer, answer) == 0 && answer[0] == file.count && memcmp(buffer, file.bytes, file.count) == 0,
+           "a rack that is saved while a bus is held has another file");
+    memset(bridges, FILL, sizeof bridges);
+    memset(devices, FILL, sizeof devices);
+    expect(open_file(&file, answer) == 0 && is_branch(&held), "a rack that was saved while a bus was held is opened as another");
+    memcpy(low, held.devices, sizeof low);
+    file = front;
+    add_registers(&file, 2, low);
+    expect_refused(&file, RACK_REFUSED_REGISTERS_VALUE, "a held node's registers at reset are taken");
+    low[4] = 7; /* command */
+    file = front;
+    add_registers(&file, 2, low);
+    expect_refused(&file, RACK_REFUSED_HELD, "a held node's registers are taken");
+    low[0]++;
+    file = front;
+    add_registers(&file, 2, low);
+    expect_refused(&file, RACK_REFUSED_REGISTERS_VALUE, "a fixed bit of a held node is taken");
+}
+
 /* Every node that there is room for with every seat, and none at reset. */
 static void longest_saved(const struct rack *full)
 {
@@ -510,9 +681,10 @@ static void ends_of_windows(void (*add_one)(struct rack *r, uint8_t parent, uint
     start(&r);
     add_one(&r, RACK_NODE_HOST, 0);
     expect(reset(&r) == 0, "a rack of one bridge is refused");
-    for (unsigned bits = 0; bits < 32; bits++) {
-        bridges[4] = (uint8_t)(bits & 7);            /* command: I/O, memory, master */
-        bridges[0x3E] = (uint8_t)(bits >> 3 << 2);   /* bridge control: ISA, VGA */
+    for (unsigned bits = 0; bits < 64; bits++) {
+        bridges[4] = (uint8_t)(bits & 7);                          /* command: I/O, memory, master */
+        bridges[RACK_CONTROL_AT] = (uint8_t)((bits >> 3 & 3) << 2); /* ISA, VGA */
+        bridges[RACK_CONTROL_AT] |= (uint8_t)(bits >> 5 == 0 ? 0 : RACK_CONTROL_BUS_RESET);
         for (uint8_t k = 0; k < RACK_NODE_WINDOWS; k++) {
             uint64_t answer[RACK_ANSWER_NUMBERS];
             expect(rack_window(r.bytes, r.count, bridges, RACK_NODE_BYTES, devices, 0, 0, k, answer) == 0, "a window is refused");
@@ -573,7 +745,7 @@ static void kinds_and_endings(void)
 
 static int is_refusal(unsigned number)
 {
-    return (number >= RACK_REFUSED_TOO_LONG && number <= RACK_REFUSED_REGISTERS_VALUE) || number == RACK_REFUSED_ARBITER;
+    return (number >= RACK_REFUSED_TOO_LONG && number <= RACK_REFUSED_HELD) || number == RACK_REFUSED_ARBITER;
 }
 
 static void texts(void)
@@ -639,6 +811,10 @@ int main(void)
     refused_registers();
     refused_order();
     registers_in_a_call();
+    bus_reset();
+    held_nodes();
+    refused_held();
+    held_file();
     access_of_the_host();
     limits();
     image_length();

@@ -16,8 +16,10 @@ DWORDS = 16  # of a node's registers, a bit of a mask each
 COMMAND, BUSES, IO_WINDOW, MEMORY, PREFETCHABLE = 0x04, 0x18, 0x1C, 0x20, 0x24
 PREFETCHABLE_BASE_UPPER, PREFETCHABLE_LIMIT_UPPER, IO_UPPER, CONTROL = 0x28, 0x2C, 0x30, 0x3C
 OPTIONS = (IO_WINDOW, PREFETCHABLE, PREFETCHABLE_BASE_UPPER, PREFETCHABLE_LIMIT_UPPER, IO_UPPER, CONTROL)
+RESETS_AT, RESETS = 0x3E, 0x40  # the byte that has bit 6 of bridge control, and that bit
 SPECIAL_CYCLE = 8 * 31 + 7  # device and function of a special cycle, with register 0
 EXPONENTS = {1: (2, 8), 2: (4, 31), 3: (4, 31)}
+WITH_RESETS = 0.4  # the share of runs in which buses are reset
 
 # What a seat may write of a node; its record stands behind the rack's first `behind` nodes.
 Grant = collections.namedtuple("Grant", "seat node mask behind")
@@ -83,6 +85,11 @@ class Node:
     def is_bridge(self):
         return self.kind in BRIDGES
 
+    @property
+    def status_bytes(self):
+        """Where status bits are."""
+        return (0x07, 0x1F) if self.is_bridge else (0x07,)
+
     @staticmethod
     def of(record):
         """The node of a record, or of a decoded rack's 13 bytes."""
@@ -143,6 +150,19 @@ class Rack:
     def bridges(self):
         return [i for i, n in enumerate(self.nodes) if n.is_bridge]
 
+    def above(self, i):
+        """The bridges above a node, the nearest first."""
+        while (i := self.nodes[i].parent) != HOST:
+            yield i
+
+    def depth(self, i):
+        """Of the bus that a node sits on."""
+        return len(list(self.above(i)))
+
+    def below(self, bridge):
+        """The nodes below a bridge, at every depth."""
+        return [i for i in range(len(self.nodes)) if bridge in self.above(i)]
+
 
 def spread(values):
     """A node's 64 bytes from numbers at their offsets, written as {offset: (value, bytes)}."""
@@ -153,17 +173,17 @@ def spread(values):
 
 
 def header(node):
-    """A node's changeable bits and its reset values, by document 01's 'Registers' and document 02's E11."""
+    """A node's changeable bits and its reset values, by document 01's 'Registers' and document 02's E11 and E5."""
     both = {0x04: (0x0147, 2), 0x06: (0xF900, 2), 0x0C: (0xFFFF, 2), 0x3C: (0xFF, 1)}
     ids = {0x00: (node.ids, 4)}
     if node.is_bridge:
         free = {0x18: (0xFFFFFFFF, 4), 0x1C: (0xF0F0, 2), 0x1E: (0xF900, 2), 0x20: (0xFFF0FFF0, 4), 0x24: (0xFFF0FFF0, 4)}
         fixed = {0x09: (0x060400, 3), 0x0E: (1, 1)}
         if node.kind == BRIDGE:
-            free.update({0x28: (~0, 4), 0x2C: (~0, 4), 0x30: (~0, 4), 0x3E: (0x3F, 2)})
+            free.update({0x28: (~0, 4), 0x2C: (~0, 4), 0x30: (~0, 4), 0x3E: (0x7F, 2)})
             fixed.update({0x1C: (0x0101, 2), 0x24: (0x00010001, 4)})
         else:
-            free[0x3E] = (0x2F, 2)
+            free[0x3E] = (0x6F, 2)
         return spread({**both, **free}), spread({**ids, **fixed})
     free, fixed = {}, {0x0B: (0xFF, 1)}
     for r, (kind, exponent) in enumerate(node.regions):
@@ -173,6 +193,11 @@ def header(node):
         if kind == 3:
             free[0x14 + 8 * r] = (~0, 4)
     return spread({**both, **free}), spread({**ids, **fixed})
+
+
+def bits(part):
+    """The bits that are set in a node's bytes, by number."""
+    return [8 * at + k for at, byte in enumerate(part) for k in range(8) if byte >> k & 1]
 
 
 class Registers:
@@ -190,9 +215,64 @@ class Registers:
                 self.now[i][at] = self.now[i][at] & ~free & 255 | data >> 8 * k & free
 
     def shuffle(self, rng, i):
+        """Any bits; bit 6 of bridge control, which holds all below, not as often as others."""
         for at in range(NODE_BYTES):
             if rng.random() < 0.5:
                 self.put(i, at & ~3, 1 << (at & 3), rng.getrandbits(32))
+        if rng.random() < 0.7:
+            self.set_bit_6(i, False)
+
+    def set_bit_6(self, i, is_set):
+        self.now[i][RESETS_AT] = self.now[i][RESETS_AT] & ~RESETS | is_set * RESETS & self.free[i][RESETS_AT]
+
+    def bit_6(self, i):
+        return self.rack.nodes[i].is_bridge and self.now[i][RESETS_AT] & RESETS != 0
+
+    def setters(self):
+        """The bridges that reset what is below them."""
+        return [i for i in self.rack.bridges() if self.bit_6(i)]
+
+    def is_held(self, i):
+        return any(self.bit_6(bridge) for bridge in self.rack.above(i))
+
+    def held(self):
+        return [i for i in range(len(self.now)) if self.is_held(i)]
+
+    def disagreeing(self):
+        """The held nodes that are not at reset."""
+        return [i for i in self.held() if self.now[i] != self.reset[i]]
+
+    def agree(self):
+        """All below a set bit 6 at reset, from the top down, so that a set bit below another goes too."""
+        for i in range(len(self.now)):
+            if self.is_held(i):
+                self.now[i] = bytearray(self.reset[i])
+
+    def disagree(self, rng):
+        """A bit that a held node may change, any or bit 6 or a status bit; none where no node is held."""
+        held = self.held()
+        if held:
+            deeper = [i for i in held if not self.bit_6(self.rack.nodes[i].parent)]
+            bridges = [i for i in held if self.rack.nodes[i].is_bridge]
+            i = rng.choice(rng.choice((held, deeper, bridges)) or held)
+            free, node = bits(self.free[i]), self.rack.nodes[i]
+            status = [bit for bit in free if bit // 8 in node.status_bytes]
+            bit = rng.choice(rng.choice((free, free, status, [8 * RESETS_AT + 6] if node.is_bridge else free)))
+            self.now[i][bit // 8] ^= 1 << bit % 8
+        return held
+
+    def store(self, i, register, enables, data):
+        """A configuration write that is stored, status bits aside: these stay."""
+        kept = sum(1 << at % 4 for at in self.rack.nodes[i].status_bytes if at & ~3 == register)
+        if register < NODE_BYTES:
+            self.put(i, register, enables & ~kept, data)
+        if self.bit_6(i):
+            for k in self.rack.below(i):
+                self.now[k] = bytearray(self.reset[k])
+
+    def changed_bits(self, i):
+        """The bits of a node that differ from reset."""
+        return bits(a ^ b for a, b in zip(self.now[i], self.reset[i]))
 
     def changed(self):
         """The nodes that differ from reset."""
@@ -353,8 +433,21 @@ class Firmware:
         return isa << 2 | (vga and rng.random() < 0.5) << 3 | vga_16 << 4 | (master_abort or rng.random() < 0.3) << 5
 
 
-def random_registers(rng, rack, firmware, odd):
-    """What firmware would have written, any bits, or reset."""
+def with_nodes_below(rng, rack):
+    """A bridge, mostly one that has nodes below it."""
+    holders = [i for i in rack.bridges() if rack.on_bus(i)]
+    return rng.choice(holders if holders and rng.random() < 0.9 else rack.bridges())
+
+
+def hold(rng, registers):
+    """Bit 6 of a bridge, seldom of more; what is below is then at reset."""
+    for _ in range(rng.choice((1, 1, 1, 2)) if registers.rack.bridges() else 0):
+        registers.set_bit_6(with_nodes_below(rng, registers.rack), True)
+    registers.agree()
+
+
+def random_registers(rng, rack, firmware, odd, share):
+    """What firmware would have written, any bits, or reset; `share` is how often a branch is held."""
     registers, way = Registers(rack), rng.random()
     if way < 0.6:
         for setting in firmware.settings(rng, odd):
@@ -362,6 +455,9 @@ def random_registers(rng, rack, firmware, odd):
     elif way < 0.9:
         for i in range(len(rack.nodes)):
             registers.shuffle(rng, i)
+    if rng.random() < share:
+        hold(rng, registers)
+    registers.agree()
     return registers
 
 
@@ -415,12 +511,92 @@ def configuration(rng, rack, firmware):
     return write(bus, device, register, rng.getrandbits(4), rng.choice((0, 0xFFFFFFFF, rng.getrandbits(32))))
 
 
+def control(rng, firmware, i, is_set):
+    """Bridge control with bit 6 set or clear, and with bit 5, by which an unclaimed access ends; now and then with other bits, seldom
+    without bit 6's byte."""
+    value = is_set * RESETS | rng.choice((0, 0x20)) | (rng.getrandbits(6) if rng.random() < 0.1 else 0)
+    enables = rng.choice((4, 12, 15)) if rng.random() < 0.8 else rng.choice((0, 8, 11))
+    return firmware.write(i, CONTROL, enables, value << 16 | rng.getrandbits(8))
+
+
+def access_to(rng, rack, firmware, k):
+    """An access to a region of a device, if it has one, from the host or any device."""
+    regions = [(kind, base) for (kind, _), base in zip(rack.nodes[k].regions, firmware.bases[k]) if kind]
+    kind, base = rng.choice(regions) if regions else (2, 0)
+    return (io if kind == 1 else memory)(rng.choice([HOST] + rack.devices()), rng.getrandbits(1), base)
+
+
+def look(rng, rack, firmware, i):
+    """What goes to the branch of a bridge, comes from there or passes by."""
+    below = rack.below(i)
+    inside, bridges = ([k for k in below if rack.nodes[k].is_bridge == kind] for kind in (False, True))
+    buses = [firmware.number[k] % 256 for k in [i] + bridges]
+    makers = [
+        lambda: CHECK,
+        lambda: read(*firmware.target(i), rng.choice((COMMAND, IO_WINDOW, CONTROL))),
+        lambda: special_cycle(rng, rng.choice(buses)),
+        lambda: read(rng.choice(buses), 8 * rng.randrange(32), 0),
+        lambda: access(rng, rack, firmware),
+    ]
+    if below:
+        makers += 2 * [lambda: read(*firmware.target(rng.choice(below)), rng.choice((COMMAND, 0x10, BUSES, 4 * rng.randrange(DWORDS))))]
+        makers += [lambda: firmware.write(rng.choice(below), COMMAND, 15, 7)]
+    if bridges:
+        makers += 2 * [lambda: read(*firmware.target(rng.choice(bridges)), CONTROL)]
+        makers += [lambda: control(rng, firmware, rng.choice(bridges), rng.getrandbits(1))]
+    if inside:
+        makers += 3 * [lambda: access_to(rng, rack, firmware, rng.choice(inside))]
+        makers += 2 * [lambda: memory(rng.choice(inside), rng.getrandbits(1), rack.first)]
+    return rng.choice(makers)()
+
+
+def steps_of_reset(rng, rack, i):
+    """Bit 6 of a bridge set and cleared, as (bridge, whether it is set): alone, again while it is set, with a bridge above or below it
+    that resets before or after, or left as it is."""
+    near = [*rack.above(i), *(k for k in rack.below(i) if rack.nodes[k].is_bridge)]
+    other = rng.choice(near) if near else i
+    return rng.choice((
+        [(i, 1), (i, 0)],
+        [(i, 1), (i, 1), (i, 0)],
+        [(other, 1), (i, 1), (i, 0), (other, 0)],
+        [(i, 1), (other, 1), (other, 0), (i, 0)],
+        [(i, 1)],
+        [(i, 0), (i, 1)],
+    ))
+
+
+def bus_reset(rng, rack, firmware):
+    """A branch that is reset, held and let go, with looks at it in between; then mostly set up anew and looked at again."""
+    i = with_nodes_below(rng, rack)
+    out = [look(rng, rack, firmware, i) for _ in range(rng.randint(0, 2))]
+    steps = steps_of_reset(rng, rack, i)
+    for bridge, is_set in steps:
+        out.append(control(rng, firmware, bridge, is_set))
+        out += [look(rng, rack, firmware, rng.choice((i, bridge))) for _ in range(rng.randint(1, 7))]
+    below = {k for bridge, _ in steps for k in rack.below(bridge)}
+    if len(below) <= 16 and rng.random() < 0.7:
+        left_out = rng.choice((CONTROL, None))  # a bit 6 below must have gone
+        out += [firmware.write(*setting) for setting in firmware.settings(rng, 0) if setting[0] in below and setting[1] != left_out]
+        out += [look(rng, rack, firmware, i) for _ in range(rng.randint(2, 6))]
+    return out
+
+
+def merged(rng, some, others):
+    """Both lists as one, each in its order."""
+    out, rest = [], [list(reversed(some)), list(reversed(others))]
+    while any(rest):
+        out.append(rng.choices(rest, [len(part) for part in rest])[0].pop())
+    return out
+
+
 def events(rng, rack, firmware, count, checks):
     out = []
     for _ in range(count):
         out.append(access(rng, rack, firmware) if rng.random() < 0.75 else configuration(rng, rack, firmware))
     for _ in range(checks):
         out.insert(rng.randint(0, len(out)), CHECK)
+    if rack.bridges() and rng.random() < WITH_RESETS:
+        out = merged(rng, out, bus_reset(rng, rack, firmware))
     return out
 
 
@@ -453,9 +629,20 @@ def try_a_write(rng, rack, firmware):
     return write(*firmware.target(rng.randrange(len(rack.nodes))), 4 * dword, rng.choice((15, rng.getrandbits(4))), rng.getrandbits(32))
 
 
+def reset_in_turn(rng, rack, firmware, later):
+    """Some of the writes that set bit 6, and of those to bridge control behind them, by a seat; then it is seat 0's turn again."""
+    control = [at for at, event in enumerate(later) if event[0] == WRITE and event[3] == CONTROL and event[4] & 4]
+    first = next((at for at in control if later[at][7] & RESETS), len(later))
+    for at in reversed(control):  # from the back, so that the places in front stay
+        seats = [g.seat for g in rack.grants if firmware.target(g.node) == (later[at][1], later[at][2])]
+        if at >= first and rng.random() < 0.4:
+            later[at : at + 1] = [seat_event(rng.choice(seats or rack.seats())), later[at], seat_event(0)]
+
+
 def take_turns(rng, rack, firmware, later):
     """Seat events among the events, each before a write or two: the rack's seats in turn and seat 0 again. Firmware's writes, which come
     first, are mostly left to seat 0, so that the seats reach what lies behind bridges."""
+    reset_in_turn(rng, rack, firmware, later)
     least = rng.choice((0, len(later) // 2, len(later) * 3 // 4))
     places = sorted((rng.randint(least, len(later)) for _ in range(rng.randint(2, 8))), reverse=True)
     for at in places:  # from the back, so that the places in front stay

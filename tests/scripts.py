@@ -1,11 +1,11 @@
-"""Random scripts of calls (CALLS.md): racks with the registers that firmware would write or any others, with seats, damaged racks, images,
-events, lent buffers and whole files."""
+"""Random scripts of calls (CALLS.md): racks with the registers that firmware would write or any others, with seats and held branches,
+damaged racks, images, events, lent buffers and whole files."""
 import subprocess
 import sys
 
 import files
 import racks
-from racks import BRIDGE, CHECK, DEVICE, DWORDS, HOST, NODE_BYTES, OLDER_BRIDGE, REGISTERS, SEAT, SEAT_EVENT, SEATS
+from racks import BRIDGE, CHECK, CONTROL, DEVICE, DWORDS, HOST, NODE_BYTES, OLDER_BRIDGE, REGISTERS, SEAT, SEAT_EVENT, SEATS
 from racks import Firmware, Grant, Node, access, configuration, number, random_rack, random_registers, register_record, seat_event
 
 STEP = 12  # of the arbiter, of both programs
@@ -15,21 +15,38 @@ DECODED = (1, 2, 3, 4, 5, 6, 7, 13)
 ARCHIVE = (8, 9, 10, 11, 14, OPENING)
 NAMING = (1, 2, 3, 4, 5, 11)  # operations that name a node
 RUNNING = (6, 8)  # operations that run an event
-OFTEN = {6: 5, 8: 5, 11: 2, 13: 3, 14: 3, OPENING: 3}  # operations that can end in many ways are called more often than once
+CHECKING = (7, 9)  # operations that check
+OFTEN = {2: 5, 5: 2, 6: 7, 8: 7, 11: 2, 13: 3, 14: 3, OPENING: 3}  # operations that can end in many ways are called more often than once
+WORDS = "data stored owner host unclaimed clash silent pass fault denied seat special".split()  # by an ending's number
+FIELDS = (2, 1, 4, 2, 3, 4, 0, 0, 6, 1, 1, 2)  # and how many fields its line has
 NODES = 96
 HEAD = 18
 MOST_IMAGE, MOST_BUFFER = 4160, 16384
 SEATED = 0.45  # the share of racks that have seats
+HELD = 0.5  # and of registers with a held branch
 
 
-def random_images(rng, rack, firmware):
-    images = random_registers(rng, rack, firmware, rng.choice((0, 0.05, 0.3))).images()
+def lent_registers(rng, rack, firmware):
+    """The registers of a rack, here and there with a held node that is not at reset, or with all of them as firmware would set them: 18."""
+    registers = random_registers(rng, rack, firmware, rng.choice((0, 0.05, 0.3)), HELD)
+    held, way = registers.held(), rng.random()
+    if way < 0.15:
+        registers.disagree(rng)
+    elif way < 0.2:
+        for setting in firmware.settings(rng, 0):
+            if setting[0] in held:
+                registers.put(*setting)
+    return registers
+
+
+def damaged_images(rng, registers):
+    images = registers.images()
     for image in images:
         if image and rng.random() < 0.06:  # a damaged bit: 12, or a changeable one
             image[rng.randrange(len(image))] ^= 1 << rng.randrange(8)
-        if rng.random() < 0.04:  # another length: 11
+        if rng.random() < 0.025:  # another length: 11
             del image[rng.randint(0, len(image)) :]
-        elif rng.random() < 0.04:
+        elif rng.random() < 0.025:
             image += bytes(rng.choice((1, 63, 64)))
     return images
 
@@ -112,11 +129,17 @@ def random_seat(rng, rack):
     return rng.choice([0] + 4 * rack.seats())
 
 
-def random_event(rng, rack, firmware):
+def random_event(rng, rack, firmware, setters):
     makers = 3 * [lambda: access(rng, rack, firmware)] + 3 * [lambda: configuration(rng, rack, firmware)]
     makers += [lambda: CHECK, lambda: seat_event(random_seat(rng, rack))]
     if rack.grants:
         makers += 3 * [lambda: racks.try_a_write(rng, rack, firmware)]
+    if rack.bridges():
+        bridge = rng.choice(setters) if setters and rng.random() < 0.8 else racks.with_nodes_below(rng, rack)
+        above = list(rack.above(bridge))
+        makers += (12 if setters else 1) * [lambda: racks.look(rng, rack, firmware, bridge)]
+        makers += 5 * [lambda: racks.control(rng, firmware, bridge, rng.random() < (0.4 if bridge in setters else 0.7))]
+        makers += (4 if above else 0) * [lambda: racks.control(rng, firmware, rng.choice(above), 1)]
     event = rng.choice(makers)()
     if len(event) > 1 and rng.random() < 0.15:  # a field out of range
         at = rng.randrange(1, min(len(event), 5))
@@ -161,6 +184,30 @@ def nodes_of(call):
     if call[0] in DECODED:
         return [Node.of(rack[at : at + 13]) for at in range(17, 17 + 13 * min(rack[16], NODES), 13)]
     return [Node.of(record) for _, record in racks.records_of(rack) if record[0] in racks.NODES and len(record) >= 7]
+
+
+def registers_of(call):
+    """The registers that a call lends, where its nodes are a tree and its images have their lengths; else none."""
+    rack = racks.Rack(0, 0)
+    rack.nodes = nodes_of(call)
+    is_tree = all(n.parent == HOST or n.parent < i and rack.nodes[n.parent].is_bridge for i, n in enumerate(rack.nodes))
+    return registers_in(rack, parts_of(call)[2:]) if is_tree and fits(call) else None
+
+
+def registers_in(rack, images):
+    """The registers of a rack's nodes in two images."""
+    registers, at = racks.Registers(rack), [0, 0]
+    for i, node in enumerate(rack.nodes):
+        k = 0 if node.is_bridge else 1
+        registers.now[i] = bytearray(images[k][at[k] : at[k] + NODE_BYTES])
+        at[k] += NODE_BYTES
+    return registers
+
+
+def with_registers(call, registers):
+    """The call with these registers, of as many nodes, in its images."""
+    images = b"".join(registers.images())
+    return call[: len(call) - len(images)] + images
 
 
 def node_kinds(call):
@@ -256,6 +303,14 @@ def random_opening(rng):
     return assembled(OPENING, (0, 0, 0), 0, file, b"", *images)
 
 
+def named_node(rng, registers):
+    """A node for a call to name: often one that is held, or a bridge that holds; seldom one that may be missing."""
+    nodes, way = range(len(registers.now)), rng.random()
+    if way < 0.05 or not nodes:
+        return rng.randint(0, 255)
+    return rng.choice((registers.held() if way < 0.4 else registers.setters() if way < 0.55 else nodes) or nodes)
+
+
 def random_call(rng, operations, steps=0.05):
     """A call of one of the operations, or a step of the arbiter, which is rarer."""
     operation = STEP if rng.random() < steps else rng.choices(operations, [OFTEN.get(operation, 1) for operation in operations])[0]
@@ -265,9 +320,12 @@ def random_call(rng, operations, steps=0.05):
     rack = random_rack(rng, size[0], size[1], rng.choice(("any", "chain", "wide")))
     firmware = Firmware(rack)
     if rng.random() < SEATED:
-        racks.grant(rng, rack, [rng.getrandbits(DWORDS)] * len(rack.nodes))
-    bridges, devices = random_images(rng, rack, firmware)
-    event, seat = random_event(rng, rack, firmware), random_seat(rng, rack)
+        near = 1 << CONTROL // 4 | rng.getrandbits(DWORDS)
+        racks.grant(rng, rack, [near if node.is_bridge else rng.getrandbits(DWORDS) for node in rack.nodes])
+    registers = lent_registers(rng, rack, firmware)
+    bridges, devices = damaged_images(rng, registers)
+    event, seat = random_event(rng, rack, firmware, registers.setters()), random_seat(rng, rack)
+    node = named_node(rng, registers)
     if rng.random() < 0.25:
         damage(rng, rack)
     if rng.random() < 0.15:
@@ -277,7 +335,6 @@ def random_call(rng, operations, steps=0.05):
         event = any_bytes(rng, event) if rng.random() < 0.1 else event
     else:
         rack_part = decoded(rng, rack)
-    node = rng.randrange(len(rack.nodes)) if rack.nodes and rng.random() < 0.95 else rng.randint(0, 255)
     if operation in RUNNING:
         node = seat
     most = 3 if operation in (4, 5, 11) else 255
@@ -287,6 +344,9 @@ def random_call(rng, operations, steps=0.05):
         mask, requests, node, index = random_step(rng)
         data = mask | requests << 16
     enables = rng.randint(0, 15) if rng.random() < 0.95 else rng.randint(0, 255)
+    if operation == 2 and node in rack.bridges() and rng.random() < 0.5:  # bit 6, mostly with its byte
+        index, enables = CONTROL, rng.choice((4, 12, 15, enables, enables & 11))
+        data = rng.choice((0, 0xFFFFFFFF, data))
     call = assembled(operation, (node, index, enables), data, rack_part, event, bridges, devices)
     return lent(rng, call) if operation in SAVING else call
 
@@ -304,6 +364,17 @@ def results(program, script):
         print(f"{program}: status {run.returncode}, {len(run.stdout)} bytes instead of {at}")
         sys.exit(1)
     return out
+
+
+def words_of(result):
+    """The line of an event's result, without its event number."""
+    ending, *fields = numbers_of(result)
+    words = [WORDS[ending - 1], *map(str, fields[: FIELDS[ending - 1]])]
+    if words[0] == "unclaimed":
+        words[3] = ("abort", "done", "target")[fields[2]]
+    if words[0] == "fault":
+        words[2] = ("memory", "io", "config")[fields[1]]
+    return words
 
 
 def numbers_of(result):

@@ -47,6 +47,21 @@ const uint8_t *registers_of(const struct chassis *c, unsigned node)
     return (is_bridge(c, node) ? c->bridges : c->devices) + RACK_NODE_BYTES * place;
 }
 
+bool is_resetting(const struct chassis *c, unsigned node)
+{
+    return is_bridge(c, node) && (registers_of(c, node)[RACK_CONTROL_AT] & RACK_CONTROL_BUS_RESET) != 0;
+}
+
+unsigned bus_held_by(const struct chassis *c, unsigned holder)
+{
+    while (holder != RACK_NODE_HOST && !is_resetting(c, holder)) {
+        holder = c->node[holder][AT_PARENT];
+    }
+    return holder;
+}
+
+unsigned node_held_by(const struct chassis *c, unsigned node) { return bus_held_by(c, c->node[node][AT_PARENT]); }
+
 bool has_record(const struct chassis *c, unsigned seat)
 {
     bool has = false;

@@ -35,6 +35,14 @@ bool is_bridge(const struct chassis *c, unsigned node);
 /* A node's 64 registers in the image that holds them. */
 const uint8_t *registers_of(const struct chassis *c, unsigned node);
 
+/* Whether a node is a bridge that resets the bus below it. */
+bool is_resetting(const struct chassis *c, unsigned node);
+
+/* The bridge that holds the bus of this holder at reset, or that holds this node: the holder itself, or one above it, that resets;
+ * RACK_NODE_HOST where there is none. */
+unsigned bus_held_by(const struct chassis *c, unsigned holder);
+unsigned node_held_by(const struct chassis *c, unsigned node);
+
 /* Whether a seat other than 0 has a record, and whether any has. */
 bool has_record(const struct chassis *c, unsigned seat);
 bool has_seats(const struct chassis *c);

@@ -1,11 +1,12 @@
 /* A small classroom screen: the tree of a rack with both ends of every window and region, register writes and accesses from the
- * keyboard, where each access went, and which seat may write what; the rack saved, and another opened; beside it a lesson on sharing a
- * bus. It links libmuzgante.a and decodes no register itself.
+ * keyboard, where each access went, what is held at reset, and which seat may write what; the rack saved, and another opened; beside it a
+ * lesson on sharing a bus. It links libmuzgante.a and decodes no register itself, but for the one bit by which a bridge resets a bus.
  *
  *     screen RACK        a rack file; the screen takes its rack records, registers too, and leaves its events to the class
  */
 #include "arbiter.h"
 #include "chassis.h"
+#include "held.h"
 #include "saved.h"
 #include "seat.h"
 #include "show.h"
@@ -21,26 +22,38 @@ struct command {
     void (*obey)(struct chassis *c, const char *const word[]);
 };
 
-static void run(struct chassis *c, const uint8_t *event, size_t count)
+static uint8_t call(struct chassis *c, const uint8_t *event, size_t count, uint64_t answer[RACK_ANSWER_NUMBERS])
+{
+    return rack_run(c->rack, c->count, c->seat, event, count, c->bridges, c->bridge_bytes, c->devices, c->device_bytes, answer);
+}
+
+/* How an event ended; a denied write and a silent card are said with what the event has of them. */
+static void show_ending(const struct chassis *c, const uint8_t *event, const uint64_t answer[RACK_ANSWER_NUMBERS])
+{
+    switch (answer[0]) {
+    case RACK_ENDED_DENIED: show_denied(c, event, answer[1]); break;
+    case RACK_ENDED_SILENT: show_silent(c, event[1]); break;
+    default: show_answer(c, answer);
+    }
+}
+
+/* An event by the acting seat, and what came of it; its ending, or 0 where it was refused. */
+static uint64_t run(struct chassis *c, const uint8_t *event, size_t count)
 {
     static struct chassis before;
     before = *c;
     uint64_t answer[RACK_ANSWER_NUMBERS];
-    uint8_t refusal =
-        rack_run(c->rack, c->count, c->seat, event, count, c->bridges, c->bridge_bytes, c->devices, c->device_bytes, answer);
+    uint8_t refusal = call(c, event, count, answer);
     if (refusal != 0) {
         show_refusal(refusal);
-        return;
+        return 0;
     }
     if (answer[0] == RACK_ENDED_SEAT) {
         c->seat = (uint8_t)answer[1]; /* no call keeps it */
     }
-    if (answer[0] == RACK_ENDED_DENIED) {
-        show_denied(c, event, answer[1]);
-    } else {
-        show_answer(c, answer);
-    }
+    show_ending(c, event, answer);
     show_changes(c, &before);
+    return answer[0];
 }
 
 /* A number of `count` bytes, lowest byte first. */
@@ -51,16 +64,25 @@ static void put_number(uint8_t *bytes, uint64_t number, size_t count)
     }
 }
 
-/* BUS DEVICE REGISTER, the first three bytes of the body of a configuration event. */
-static bool read_place(const char *const word[], uint8_t *body)
+/* BUS DEVICE, the first two bytes of the body of a configuration event. */
+static bool read_device(const char *const word[], uint8_t *body)
 {
-    uint64_t bus, device, at;
-    if (!hexadecimal(word[0], "bus", 0xFF, &bus) || !hexadecimal(word[1], "device", 0x1F, &device) ||
-        !hexadecimal(word[2], "register", 0xFF, &at)) {
+    uint64_t bus, device;
+    if (!hexadecimal(word[0], "bus", 0xFF, &bus) || !hexadecimal(word[1], "device", 0x1F, &device)) {
         return false;
     }
     body[0] = (uint8_t)bus;
     body[1] = (uint8_t)(8 * device); /* and function 0 */
+    return true;
+}
+
+/* BUS DEVICE REGISTER, the first three. */
+static bool read_place(const char *const word[], uint8_t *body)
+{
+    uint64_t at;
+    if (!read_device(word, body) || !hexadecimal(word[2], "register", 0xFF, &at)) {
+        return false;
+    }
     body[2] = (uint8_t)at;
     return true;
 }
@@ -96,6 +118,38 @@ static void obey_special(struct chassis *c, const char *const word[])
         run(c, event, sizeof event);
     }
 }
+
+enum { CONTROL_BYTE = RACK_CONTROL_AT % 4, CONTROL_DWORD = RACK_CONTROL_AT - CONTROL_BYTE };
+
+/* Bridge control at a bus, device and function, as a read on a copy of the rack finds it; 0 where nobody answers. */
+static uint8_t control_at(const struct chassis *c, uint8_t bus, uint8_t devfn)
+{
+    static struct chassis copy;
+    copy = *c;
+    const uint8_t event[1 + RACK_BODY_CONFIGURATION_READ] = {RACK_KIND_CONFIGURATION_READ, bus, devfn, CONTROL_DWORD};
+    uint64_t answer[RACK_ANSWER_NUMBERS];
+    bool is_read = call(&copy, event, sizeof event, answer) == 0 && answer[0] == RACK_ENDED_DATA;
+    return (uint8_t)(is_read ? answer[2] >> 8 * CONTROL_BYTE : 0);
+}
+
+/* A write of bridge control with its bus reset bit as given and the others as they are. */
+static void write_bus_reset(struct chassis *c, const char *const word[], uint8_t bit)
+{
+    uint8_t event[1 + RACK_BODY_CONFIGURATION_WRITE] = {RACK_KIND_CONFIGURATION_WRITE, 0, 0, CONTROL_DWORD, 1 << CONTROL_BYTE};
+    if (!read_device(word, &event[1])) {
+        return;
+    }
+    uint8_t others = (uint8_t)(control_at(c, event[1], event[2]) & ~RACK_CONTROL_BUS_RESET);
+    event[5 + CONTROL_BYTE] = others | bit;
+    uint64_t ended = run(c, event, sizeof event);
+    if (ended == RACK_ENDED_STORED && (control_at(c, event[1], event[2]) & RACK_CONTROL_BUS_RESET) != bit) {
+        printf("  no bit was set: this is a card, and has no bus below it\n");
+    }
+}
+
+static void obey_hold(struct chassis *c, const char *const word[]) { write_bus_reset(c, word, RACK_CONTROL_BUS_RESET); }
+
+static void obey_release(struct chassis *c, const char *const word[]) { write_bus_reset(c, word, 0); }
 
 /* WHO read|write, the first two bytes of the body of an access. */
 static bool read_driver(const char *const word[], uint8_t *body)
@@ -213,10 +267,12 @@ static void obey_open(struct chassis *c, const char *const word[]) { open_rack(c
 static void obey_help(struct chassis *c, const char *const word[]);
 
 static const struct command commands[] = {
-    {"tree", "", "the rack with both ends of every window and region, and its seats", 0, obey_tree},
+    {"tree", "", "the rack with both ends of every window and region, its seats, and what is held", 0, obey_tree},
     {"write", "BUS DEVICE REGISTER ENABLES DATA", "a configuration write, all in hexadecimal", 5, obey_write},
     {"read", "BUS DEVICE REGISTER", "a configuration read, the same", 3, obey_read},
     {"special", "BUS DATA", "a special cycle on that bus, the same", 2, obey_special},
+    {"hold", "BUS DEVICE", "a bus reset: the bridge there holds everything below it at reset, the same", 2, obey_hold},
+    {"release", "BUS DEVICE", "its end: everything below that bridge is let go, the same", 2, obey_release},
     {"memory", "WHO read|write ADDRESS", "a memory access of the host, or of a card by its decimal number", 3, obey_memory},
     {"io", "WHO read|write ADDRESS", "an I/O access, the same", 3, obey_io},
     {"check", "", "does anyone claim what another claims?", 0, obey_check},

@@ -1,5 +1,6 @@
 #include "show.h"
 
+#include "held.h"
 #include "seat.h"
 
 #include <inttypes.h>
@@ -25,12 +26,13 @@ void show_name(const struct chassis *c, uint64_t node)
     }
 }
 
-static void show_bus(uint64_t holder)
+static void show_bus(const struct chassis *c, uint64_t holder)
 {
     if (holder == RACK_NODE_HOST) {
         printf("the root bus");
     } else {
-        printf("the bus below bridge %" PRIu64, holder);
+        bool is_held = bus_held_by(c, (unsigned)holder) != RACK_NODE_HOST;
+        printf("the bus below bridge %" PRIu64 "%s", holder, is_held ? " (held at reset)" : "");
     }
 }
 
@@ -72,11 +74,14 @@ static void show_node(const struct chassis *c, unsigned node, int depth)
 {
     const uint8_t *n = c->node[node];
     const uint8_t *vendor = &n[AT_VENDOR_ID], *device = &n[AT_DEVICE_ID];
-    printf("%*s%s %u, device %02X (%02X%02X:%02X%02X)\n", 2 * depth, "", kind_name(c, node), node, n[AT_DEVICE], vendor[1], vendor[0],
+    printf("%*s%s %u, device %02X (%02X%02X:%02X%02X)", 2 * depth, "", kind_name(c, node), node, n[AT_DEVICE], vendor[1], vendor[0],
            device[1], device[0]);
+    show_mark(c, node);
+    putchar('\n');
     for (uint8_t k = 0; k < RACK_NODE_WINDOWS; k++) {
         show_window(c, node, k, 2 * depth + 4);
     }
+    show_held_bus(c, node, 2 * depth + 4);
     show_grants(c, node, 2 * depth + 4);
 }
 
@@ -125,7 +130,7 @@ static const char *outcome_name(uint64_t outcome)
 static void show_fault(const struct chassis *c, const uint64_t a[RACK_ANSWER_NUMBERS])
 {
     printf("fault on ");
-    show_bus(a[1]);
+    show_bus(c, a[1]);
     printf(": ");
     show_claimants(c, a[5], a[6]);
     if (a[2] == RACK_SPACE_CONFIGURATION) {
@@ -159,13 +164,13 @@ void show_answer(const struct chassis *c, const uint64_t a[RACK_ANSWER_NUMBERS])
         break;
     case RACK_ENDED_UNCLAIMED:
         printf("unclaimed on ");
-        show_bus(a[2]);
+        show_bus(c, a[2]);
         printf(", %s,", outcome_name(a[3]));
         show_crossings(a[1]);
         break;
     case RACK_ENDED_CLASH:
         printf("clash on ");
-        show_bus(a[2]);
+        show_bus(c, a[2]);
         printf(": ");
         show_claimants(c, a[3], a[4]);
         printf(" it,");
@@ -173,14 +178,11 @@ void show_answer(const struct chassis *c, const uint64_t a[RACK_ANSWER_NUMBERS])
         break;
     case RACK_ENDED_SPECIAL:
         printf("special cycle on ");
-        show_bus(a[2]);
+        show_bus(c, a[2]);
         show_crossings(a[1]);
         break;
     case RACK_ENDED_SEAT:
         printf("seat %" PRIu64 " acts from now on\n", a[1]);
-        break;
-    case RACK_ENDED_SILENT:
-        printf("silent: the initiator may not drive its bus\n");
         break;
     case RACK_ENDED_PASS:
         printf("pass: no two parties claim one address\n");
@@ -193,16 +195,24 @@ void show_answer(const struct chassis *c, const uint64_t a[RACK_ANSWER_NUMBERS])
     }
 }
 
+static void show_bytes(const struct chassis *c, const struct chassis *before, unsigned node)
+{
+    const uint8_t *now = registers_of(c, node), *then = registers_of(before, node);
+    for (unsigned at = 0; at < RACK_NODE_BYTES; at++) {
+        if (now[at] != then[at]) {
+            printf("  ");
+            show_name(c, node);
+            printf(", register %02X: %02X is now %02X\n", at, then[at], now[at]);
+        }
+    }
+}
+
 void show_changes(const struct chassis *c, const struct chassis *before)
 {
     for (unsigned i = 0; i < c->nodes; i++) {
-        const uint8_t *now = registers_of(c, i), *then = registers_of(before, i);
-        for (unsigned at = 0; at < RACK_NODE_BYTES; at++) {
-            if (now[at] != then[at]) {
-                printf("  ");
-                show_name(c, i);
-                printf(", register %02X: %02X is now %02X\n", at, then[at], now[at]);
-            }
+        if (!show_node_change(c, before, i)) {
+            show_bytes(c, before, i);
+            show_bus_change(c, before, i);
         }
     }
 }
@@ -217,4 +227,5 @@ void show_registers(const struct chassis *c, unsigned node)
         printf("%c%02X%s", is_marked(c, node, at) ? '*' : ' ', registers[at], at % 16 == 15 ? "\n" : "");
     }
     show_legend(c, node);
+    show_hold(c, node);
 }

@@ -11,16 +11,16 @@ void show_name(const struct chassis *c, uint64_t node);
 /* How many bridges an access crossed; ends the line. */
 void show_crossings(uint64_t crossings);
 
-/* The rack with both ends of every window and region, and what each seat may write. */
+/* The rack with both ends of every window and region, what is held at reset, and what each seat may write. */
 void show_tree(const struct chassis *c);
 
-/* How an event or the check ended. */
+/* How an event that was neither denied nor silent, or the check, ended. */
 void show_answer(const struct chassis *c, const uint64_t answer[RACK_ANSWER_NUMBERS]);
 
-/* The registers that an event changed. */
+/* The registers that an event changed; of a node that is held or let go since, that alone. */
 void show_changes(const struct chassis *c, const struct chassis *before);
 
-/* The 64 registers of a node; those that the acting seat may write are marked, unless it may write all. */
+/* The 64 registers of a node; those that the acting seat may write are marked, unless it may write all; and whether it is held. */
 void show_registers(const struct chassis *c, unsigned node);
 
 #endif

@@ -11,7 +11,7 @@ use Rattle.rack.specs.definitions.First.{_when_, _or_, unless}
 use Rattle.rack.specs.laws.FirstLaws.{or-this, or-next, or-none, unless-number, unless-none}
 use Rattle.seat.specs.definitions.Grants.{Grants}
 use Rattle.register_image.specs.definitions.Image.{Images, Result, gives}
-use Rattle.register_image.specs.definitions.Fixed.{imageRefusal}
+use Rattle.bus_reset.specs.definitions.Agreement.{imageRefusal}
 use Rattle.register_header.specs.definitions.Register.{readRegister}
 use Rattle.event_run.specs.declared.Answer.{Answer}
 use Rattle.call_table.specs.declared.Reply.the-variants as reply

@@ -53,7 +53,7 @@ pub fn write_on(
     if number != 0 {
         return number;
     }
-    register_image::image::write_node(table, bridges, devices, node, register, enables, put);
+    bus_reset::store::store_node(table, bridges, devices, node, register, enables, put);
     0
 }
 

@@ -1,4 +1,4 @@
-// Refusals 6 to 15 of a call, in their order.
+// Refusals 6 to 15 and 18 of a call, in their order.
 ghost use mathlib.Core.Path.{_≡_};
 ghost use Rattle.rack.specs.definitions.First.{_when_};
 ghost use Rattle.rack.specs.definitions.Table.{treeOf};
@@ -31,7 +31,7 @@ pub fn refusal_by<'a>(
     if tree != 0 {
         return tree;
     }
-    let image = register_image::fixed::image_refusal(table, bridges, devices);
+    let image = bus_reset::agreement::image_refusal(table, bridges, devices);
     if image != 0 {
         return image;
     }

@@ -7,3 +7,5 @@ pub mod Reach
 pub mod SameBytes
 pub mod Apart
 pub mod Lacked
+pub mod Held
+pub mod ResetBit

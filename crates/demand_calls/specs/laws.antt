@@ -15,3 +15,4 @@ pub mod CLater
 pub mod Seats
 pub mod CSeats
 pub mod Saving
+pub mod Resets

@@ -5,7 +5,8 @@ use Prim.Native.Nat.{ℕ}
 use Rattle.rack.specs.definitions.Tree.{Tree}
 use Rattle.seat.specs.definitions.Grants.{Acting, mayWrite}
 use Rattle.register_header.specs.definitions.Register.{readRegister}
-use Rattle.register_image.specs.definitions.Image.{Images, Result, view, writeNode, gives}
+use Rattle.register_image.specs.definitions.Image.{Images, Result, view, gives}
+use Rattle.bus_reset.specs.definitions.Store.{storeNode}
 use Rattle.claim_agent.specs.declared.Space.the-variants as space
 use Rattle.route_bus.specs.declared.Access.{Access}
 use Rattle.route_bus.specs.declared.End.{End}
@@ -22,7 +23,7 @@ use Rattle.event_run.specs.definitions.Run.{configuration, addressed, an
 
 -- a register of the node that was reached
 module _ (t : Tree) (im : Images) (x : Access) (crossings g : ℕ) where
-  pub stores : {v : Images} → x .write ≡ true → v ≡ writeNode t im g (x .register) (x .enables) (x .«data»)
+  pub stores : {v : Images} → x .write ≡ true → v ≡ storeNode t im g (x .register) (x .enables) (x .«data»)
       → answers crossings Stored v ≡ registerOf t im x crossings g
   unfolding registerOf
   stores w e = rw w (ap (answers crossings Stored) e)

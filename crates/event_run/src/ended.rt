@@ -32,15 +32,7 @@ fn register_of(
     ensures { λ r. ⌜ result r (now (bridges .exit)) (now (devices .exit)) ≡ registerOf (treeOf (now (table .entry))) (images (now (bridges .entry)) (now (devices .entry))) x crossings g ⌝ }
 {
     if x.write {
-        register_image::image::write_node(
-            table,
-            bridges,
-            devices,
-            g,
-            x.register,
-            x.enables,
-            x.data,
-        );
+        bus_reset::store::store_node(table, bridges, devices, g, x.register, x.enables, x.data);
         return Answer::Ended {
             crossings,
             ending: Ending::Stored,

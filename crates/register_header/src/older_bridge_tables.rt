@@ -80,7 +80,7 @@ pub const OLDER_BRIDGE_WRITE: [u8; 64] = [
     // 3Ch INTERRUPT_LINE, INTERRUPT_PIN, BRIDGE_CONTROL
     0xff,
     0x00,
-    0x2f,
+    0x6f,
     0x00,
 ];
 

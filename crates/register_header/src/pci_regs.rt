@@ -63,3 +63,6 @@ pub const BRIDGE_CTL_VGA16: u8 = 0x10;
 
 // turns an unclaimed access into a target abort
 pub const BRIDGE_CTL_MASTER_ABORT: u8 = 0x20;
+
+// holds every node below in reset
+pub const BRIDGE_CTL_BUS_RESET: u8 = 0x40;

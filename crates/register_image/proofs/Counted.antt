@@ -1,6 +1,6 @@
 -- What is no bridge is a device: the lengths that refusal 11 asks for, from the count of bridges alone.
 use mathlib.Core.Path.{_≡_}
-use mathlib.Core.Bool.{Bool, true, false, not, _&&_}
+use mathlib.Core.Bool.{not, _&&_}
 use mathlib.Core.List.{List}
 use Prim.Native.Nat.{ℕ, _-_, _*_, _≤_}
 use lib.Dec.{eqb}
@@ -8,8 +8,8 @@ use lib.ListN.{length}
 use Rattle.rack.specs.declared.Node.{Node}
 use Rattle.rack.specs.definitions.Tree.{Tree, bridgesBelow}
 use Rattle.rack.specs.laws.TreeLaws.{devices-left, below-le}
-use Rattle.register_image.specs.definitions.Image.{Images, images}
-use Rattle.register_image.specs.definitions.Fixed.{lengthsWrong, fixedWrong, imageRefusal}
+use Rattle.register_image.specs.definitions.Image.{images}
+use Rattle.register_image.specs.definitions.Fixed.{lengthsWrong}
 
 pub bridges-le : (node : ℕ → Node) {n b : ℕ} → b ≡ bridgesBelow node n → b ≤ n
 bridges-le node e = rw e (below-le node _)
@@ -18,18 +18,3 @@ pub lengths : (t : Tree) (l m : List ℕ) {n b : ℕ} → n ≡ t .count → b �
     → not (eqb (length l) (64 * b) && eqb (length m) (64 * (n - b))) ≡ lengthsWrong t (images l m)
 unfolding lengthsWrong
 lengths t l m at e = rw (e, at, devices-left (t .node) (t .count))
-
--- the number of the refusal, from what the code has asked
-module _ (t : Tree) (im : Images) {b : Bool} (eb : b ≡ lengthsWrong t im) where
-  pub refused-11 : b ≡ true → 11 ≡ imageRefusal t im
-  unfolding imageRefusal
-  refused-11 q = rw (← eb, q)
-
-  module _ (q : b ≡ false) {f : Bool} (ef : f ≡ fixedWrong t im) where
-    pub refused-12 : f ≡ true → 12 ≡ imageRefusal t im
-    unfolding imageRefusal
-    refused-12 p = rw (← eb, q, ← ef, p)
-
-    pub refused-none : f ≡ false → 0 ≡ imageRefusal t im
-    unfolding imageRefusal
-    refused-none p = rw (← eb, q, ← ef, p)

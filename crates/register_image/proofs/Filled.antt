@@ -1,17 +1,19 @@
 -- The turns of the loops that put reset values: one byte of a part more, one node of a rack more.
-use mathlib.Core.Path.{_≡_, sym, ap, _∙_}
+use mathlib.Core.Path.{_≡_}
 use mathlib.Core.List.{List, [], _∷_, _++_, append-nil}
 use Prim.Native.Nat.{ℕ, _+_, _-_, _≤_, _<_}
 use native.Mathlib.Numerals.{add-one}
 use native.Mathlib.Omega.{arith}
+use mathlib.Core.Bool.{true}
 use lib.ListN.{length, take, set}
 use lib.Seq.{take-all, take-suc-set, append-snoc}
 use Rattle.rack.specs.declared.Node.{Node}
 use Rattle.rack.specs.definitions.Tree.{Tree}
 use Rattle.rack.specs.laws.CountLaws.{left-suc, left-none}
 use Rattle.register_header.specs.definitions.Mask.{resetByte}
-use Rattle.register_image.specs.definitions.Image.{Images, onNode}
-use Rattle.register_image.specs.definitions.Reset.{resetFrom, resetPart, resetNodes, resetImages}
+use Rattle.register_image.specs.definitions.Image.{Images}
+use Rattle.register_image.specs.definitions.Reset.{resetFrom, resetPart, resetNode, resetImages}
+use Rattle.register_image.specs.laws.ResetTurns.{ResetYet, reset-next, reset-all}
 
 from-next : (n : Node) (at : ℕ) → at < 64 → resetFrom n at (64 - at) ≡ resetByte n at ∷ resetFrom n (at + 1) (64 - (at + 1))
 unfolding resetFrom
@@ -33,18 +35,10 @@ bytes-none n l at el h e =
     let whole : length l ≤ at = omega arith in
     rw (left-none at 64 h, take-all at l whole, append-nil) at e
 
--- the nodes below i are at reset
-abbrev pub ResetYet : Tree → Images → ℕ → Images → ℕ → Type 0
-ResetYet t whole n im i = resetNodes t whole 0 n ≡ resetNodes t im i (n - i)
+-- where every node is put at reset
+module _ (t : Tree) (whole im : Images) {n i : ℕ} (yet : ResetYet t (λ i. true) whole n im i) where
+  pub each-next : {after : Images} → i < n → after ≡ resetNode t im i → ResetYet t (λ i. true) whole n after (i + 1)
+  each-next h e = reset-next t (λ i. true) whole im yet h e
 
-pub reset-none : (t : Tree) (im : Images) (n : ℕ) → ResetYet t im n im 0
-reset-none t im n = let e : n ≡ n - 0 = omega arith in ap (resetNodes t im 0) e
-
-module _ (t : Tree) (whole im : Images) {n i : ℕ} (yet : ResetYet t whole n im i) where
-  pub reset-next : {after : Images} → i < n → after ≡ onNode t im i (λ part. resetPart (t .node i)) → ResetYet t whole n after (i + 1)
-  unfolding resetNodes
-  reset-next h e = yet ∙ rw (left-suc i n h, e)
-
-  pub reset-all : n ≡ t .count → n ≤ i → im ≡ resetImages t whole
-  unfolding resetNodes
-  reset-all at h = sym (ap (resetNodes t whole 0) (sym at) ∙ yet ∙ rw (left-none i n h))
+  pub each-all : n ≡ t .count → n ≤ i → im ≡ resetImages t whole
+  each-all at h = reset-all t (λ i. true) whole im yet at h

@@ -2,7 +2,7 @@
 ghost use mathlib.Core.Path.{_≡_};
 ghost use Rattle.rack.specs.definitions.Table.{treeOf};
 ghost use Rattle.register_image.specs.definitions.Image.{images};
-ghost use Rattle.register_image.specs.definitions.Fixed.{lengthsWrong, valueWrong, partWrong, nodeWrong, fixedWrong, imageRefusal};
+ghost use Rattle.register_image.specs.definitions.Fixed.{lengthsWrong, valueWrong, partWrong, nodeWrong, fixedWrong};
 use rack::Node;
 use rack::table::Table;
 use rack::table::count_of;
@@ -38,7 +38,8 @@ fn node_wrong<'a>(table: &Table, bridges: &'a [u8], devices: &'a [u8], i: u8) ->
     )
 }
 
-fn fixed_wrong<'a>(table: &Table, bridges: &'a [u8], devices: &'a [u8]) -> bool
+// Whether one of any node does.
+pub fn fixed_wrong<'a>(table: &Table, bridges: &'a [u8], devices: &'a [u8]) -> bool
     ensures { λ r. ⌜ r ≡ fixedWrong (treeOf (now (table .entry))) (images (now (bridges .entry)) (now (devices .entry))) ⌝ }
 {
     let count = count_of(table);
@@ -59,17 +60,4 @@ pub fn lengths_wrong<'a>(table: &Table, bridges: &'a [u8], devices: &'a [u8]) ->
     let b = rack::table::bridges_below(table, count);
     let d = count - b;
     !((bridges.len() == 64 * b) & (devices.len() == 64 * d))
-}
-
-// The refusal of two images, 0 where there is none.
-pub fn image_refusal<'a>(table: &Table, bridges: &'a [u8], devices: &'a [u8]) -> u8
-    ensures { λ r. ⌜ r ≡ imageRefusal (treeOf (now (table .entry))) (images (now (bridges .entry)) (now (devices .entry))) ⌝ }
-{
-    if lengths_wrong(table, bridges, devices) {
-        return 11;
-    }
-    if fixed_wrong(table, bridges, devices) {
-        return 12;
-    }
-    0
 }

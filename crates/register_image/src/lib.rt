@@ -1,4 +1,4 @@
-// The two register images of a rack: the part of a node in them, the refusals of images, reset, sizing.
+// The two register images of a rack: the part of a node in them, their lengths and fixed bits, reset, sizing.
 pub mod fixed;
 pub mod image;
 pub mod reset;

@@ -2,8 +2,8 @@
 ghost use mathlib.Core.Path.{_≡_};
 ghost use lib.ListN.{length};
 ghost use Rattle.rack.specs.definitions.Table.{treeOf};
-ghost use Rattle.register_image.specs.definitions.Image.{images, onPart, onNode};
-ghost use Rattle.register_image.specs.definitions.Reset.{resetPart, isChanged, resetImages};
+ghost use Rattle.register_image.specs.definitions.Image.{images, onPart};
+ghost use Rattle.register_image.specs.definitions.Reset.{resetPart, isChanged, resetNode, resetImages};
 use rack::Node;
 use rack::table::Table;
 use rack::table::count_of;
@@ -42,8 +42,9 @@ fn reset_at(image: &mut [u8], place: usize, n: Node)
     }
 }
 
-fn reset_node(table: &Table, bridges: &mut [u8], devices: &mut [u8], i: u8)
-    ensures { λ _. ⌜ images (now (bridges .exit)) (now (devices .exit)) ≡ onNode (treeOf (now (table .entry))) (images (now (bridges .entry)) (now (devices .entry))) i (λ part. resetPart (treeOf (now (table .entry)) .node i)) ⌝ }
+// One node at reset.
+pub fn reset_node(table: &Table, bridges: &mut [u8], devices: &mut [u8], i: u8)
+    ensures { λ _. ⌜ images (now (bridges .exit)) (now (devices .exit)) ≡ resetNode (treeOf (now (table .entry))) (images (now (bridges .entry)) (now (devices .entry))) i ⌝ }
 {
     let count = count_of(table);
     if i < count {

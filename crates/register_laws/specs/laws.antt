@@ -8,3 +8,5 @@ pub mod Lacked
 pub mod Resets
 pub mod Exponents
 pub mod Sizes
+pub mod Above
+pub mod Held

@@ -7,6 +7,7 @@ use Rattle.rack.specs.definitions.Tree.{Tree}
 use Rattle.register_header.specs.declared.Side.{Side}
 use Rattle.register_header.specs.declared.StatusBit.the-variants.{ReceivedMasterAbort}
 use Rattle.register_image.specs.definitions.Image.{Images, Result, statusNode, gives}
+use Rattle.bus_reset.specs.definitions.Held.{heldBus}
 use Rattle.claim_agent.specs.declared.Claimants.{Claimants}
 use Rattle.claim_agent.specs.declared.Claimants.the-variants.{Nobody, One, Two}
 use Rattle.claim_agent.specs.definitions.Claimants.{claimants, firstTwo}
@@ -15,7 +16,7 @@ use Rattle.route_bus.specs.declared.Outcome.the-variants.{Abort}
 use Rattle.route_bus.specs.declared.End.the-variants.{Node, Unclaimed, Clash, Special}
 use Rattle.route_bus.specs.declared.Sight.{Sight}
 use Rattle.route_bus.specs.declared.Sight.the-variants.{Ends}
-use Rattle.route_bus.specs.definitions.Look.{sideOn, masterAbort, unclaimed, owned, claimed, target, selects, isSpecialCycle, direct, look}
+use Rattle.route_bus.specs.definitions.Look.{sideOn, masterAbort, unclaimed, owned, claimed, target, found, selects, isSpecialCycle, direct, look}
 use Rattle.route_bus.specs.laws.LookLaws.{special-ends, other-selects}
 
 module _ (t : Tree) (im : Images) (bus driver : ℕ) where
@@ -32,8 +33,17 @@ module _ (t : Tree) (im : Images) (bus driver : ℕ) where
   unfolding unclaimed
   abort-seen ev = rw ev
 
+module _ (t : Tree) (im : Images) (bus devfn : ℕ) {held : Bool} (eh : held ≡ heldBus t im bus) where
+  pub found-held : held ≡ true → 255 ≡ found t im bus devfn
+  unfolding found
+  found-held q = rw (← eh, q)
+
+  pub found-free : {g : ℕ} → held ≡ false → g ≡ target t bus devfn → g ≡ found t im bus devfn
+  unfolding found
+  found-free q e = rw (← eh, q) e
+
 module _ (t : Tree) (im : Images) (x : Access) (bus driver : ℕ) where
-  module _ {g : ℕ} (eg : g ≡ target t bus (x .devfn)) where
+  module _ {g : ℕ} (eg : g ≡ found t im bus (x .devfn)) where
     pub selects-none : {v : Result Sight} → g ≡ 255 → v ≡ unclaimed t im bus driver → v ≡ selects t im x bus driver
     unfolding selects
     selects-none e ev = rw (← eg, eq-eqb g 255 e) ev

@@ -5,7 +5,7 @@ ghost use mathlib.Core.Bool.{_&&_};
 ghost use lib.Dec.{eqb};
 ghost use Rattle.rack.specs.definitions.Table.{treeOf, nodeAt};
 ghost use Rattle.register_image.specs.definitions.Image.{images, result};
-ghost use Rattle.route_bus.specs.definitions.Look.{isIo, sideOn, masterAbort, unclaimed, owned, claimed, target, selects, isSpecialCycle, direct, look};
+ghost use Rattle.route_bus.specs.definitions.Look.{isIo, sideOn, masterAbort, unclaimed, owned, claimed, target, found, selects, isSpecialCycle, direct, look};
 use crate::Access;
 use crate::End;
 use crate::Outcome;
@@ -149,7 +149,17 @@ fn target_of(table: &Table, bus: u8, devfn: u8) -> u8
     255
 }
 
-// Type 0 configuration selects the node of its device number, if there is one.
+// The node that Type 0 configuration finds on a bus; 255 for none, as on every held bus.
+fn found_on<'a>(table: &Table, bridges: &'a [u8], devices: &'a [u8], bus: u8, devfn: u8) -> u8
+    ensures { λ r. ⌜ r ≡ found (treeOf (now (table .entry))) (images (now (bridges .entry)) (now (devices .entry))) bus devfn ⌝ }
+{
+    if bus_reset::held::is_held_bus(table, bridges, devices, bus) {
+        return 255;
+    }
+    target_of(table, bus, devfn)
+}
+
+// Type 0 configuration selects the node of its device number, if it finds one.
 fn selected_on(
     table: &Table,
     bridges: &mut [u8],
@@ -160,7 +170,7 @@ fn selected_on(
 ) -> Sight
     ensures { λ r. ⌜ result r (now (bridges .exit)) (now (devices .exit)) ≡ selects (treeOf (now (table .entry))) (images (now (bridges .entry)) (now (devices .entry))) x bus driver ⌝ }
 {
-    let g = target_of(table, bus, x.devfn);
+    let g = found_on(table, bridges, devices, bus, x.devfn);
     if g == 255 {
         return unclaimed_on(table, bridges, devices, bus, driver);
     }

@@ -6,3 +6,5 @@ pub mod Changes
 pub mod Arrives
 pub mod Type0
 pub mod Special
+pub mod Accepted
+pub mod HeldBus

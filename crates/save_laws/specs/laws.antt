@@ -3,12 +3,14 @@ pub mod Goes
 pub mod Records
 pub mod Trees
 pub mod Nodes
+pub mod Earlier
 pub mod Seats
 pub mod Registers
 pub mod ReadBack
 pub mod Events
 pub mod Views
 pub mod Start
+pub mod Agreed
 pub mod Decoded
 pub mod Loaded
 pub mod OneForm

@@ -13,7 +13,7 @@ use crate::registers;
 use crate::saved;
 use crate::windows::{region_ends, Address, Ends, Windows};
 
-/// The machine of a call that is not refused: 6 to 12, then 13 and 14.
+/// The machine of a call that is not refused: 6 to 12 and 18, then 13 and 14.
 fn accept(rack: &Rack, bridges: &[u8], devices: &[u8], fields: &Fields) -> Result<Machine, u8> {
     let machine = Machine::with_images(rack.clone(), bridges, devices)?;
     match refuse::fields(rack, fields).or_else(|| refuse::grants(rack)) {
@@ -57,7 +57,7 @@ pub fn check(rack: &Rack, bridges: &[u8], devices: &[u8]) -> Result<Answer, u8> 
 }
 
 /// The C call that runs an event: "1 to 10 as for a file"; "The event to run is read
-/// next, before 11"; then 11 to 15.
+/// next, before 11"; then 11 to 15, with 18 behind 12.
 pub fn event_of_bytes(
     records: &[u8],
     event_bytes: &[u8],
@@ -75,8 +75,8 @@ pub fn check_of_bytes(records: &[u8], bridges: &[u8], devices: &[u8]) -> Result<
     check(&rack_of_bytes(records)?, bridges, devices)
 }
 
-/// The reset of both images: 1 to 10, 11, 14. What stands in them plays no part, so that 12
-/// refuses none.
+/// The reset of both images: 1 to 10, 11, 14. What stands in them plays no part, so that 12 and
+/// 18 refuse none.
 pub fn reset_of_bytes(records: &[u8], bridges: &mut [u8], devices: &mut [u8]) -> Result<(), u8> {
     let rack = rack_of_bytes(records)?;
     let lengths = refuse::lengths(&rack, bridges, devices);
@@ -88,8 +88,8 @@ pub fn reset_of_bytes(records: &[u8], bridges: &mut [u8], devices: &mut [u8]) ->
 }
 
 /// The writer: the file of the rack with these registers, into the lent buffer; gives its length.
-/// 6 to 12 and 14, then "a lent buffer too short for the writer's file is 11 too, tested after all
-/// others; a refusal leaves the buffer untouched, and a file that fits the bytes past it".
+/// 6 to 12, 18 and 14, then "a lent buffer too short for the writer's file is 11 too, tested after
+/// all others; a refusal leaves the buffer untouched, and a file that fits the bytes past it".
 pub fn save(rack: &Rack, bridges: &[u8], devices: &[u8], buffer: &mut [u8]) -> Result<usize, u8> {
     let file = saved::file(&accept(rack, bridges, devices, &Fields::default())?);
     if buffer.len() < file.len() {
@@ -121,7 +121,7 @@ pub struct Start {
 }
 
 /// The registers that a run of a whole file "starts from ... instead of reset", into both images:
-/// 1 to 10 and 13 to 17 as for a file, then 11. As in a reset, what stands in the images plays no
+/// 1 to 10 and 13 to 18 as for a file, then 11. As in a reset, what stands in the images plays no
 /// part. Images of the wrong length get to know the right ones from the counts.
 pub fn start_of_file(bytes: &[u8], bridges: &mut [u8], devices: &mut [u8]) -> Start {
     let read = file::read(bytes).map_err(|refused| refused.number).and_then(|contents| {
@@ -167,7 +167,8 @@ pub fn register_read(
     Ok(accept(rack, bridges, devices, &fields)?.read(node, register))
 }
 
-/// Register write of a node, with byte enables.
+/// Register write of a node, with byte enables. Of a held node it is no refusal, but changes
+/// nothing; of a bridge it may put all below to reset.
 pub fn register_write(
     rack: &Rack,
     bridges: &mut [u8],

@@ -55,7 +55,8 @@ fn address_of(kind: Kind, value: u64) -> Option<Address> {
 
 /// The fault at one address on a bus with these claims: "the first driver, and the first
 /// two claimants in agent order. Every agent counts as a driver, whatever its command
-/// bits."
+/// bits." Of held nodes there are no claims here: "The check counts no held node as claimant or
+/// driver".
 pub fn fault_at(claims: &[(u8, Claim)], bus: u8, kind: Kind, value: u64) -> Option<Fault> {
     let address = address_of(kind, value)?;
     let claiming = claims.iter().filter(|(_, claim)| claim.holds(address));

@@ -43,7 +43,7 @@ pub enum Claim {
     Secondary(bool, Windows),
     /// A device, with both ends of each region and whether it is I/O.
     Device(Spaces, [Option<(bool, Ends)>; 3]),
-    /// A node that is no agent of the bus.
+    /// A node that is no agent of the bus, or one that is held.
     Nothing,
 }
 
@@ -54,6 +54,10 @@ impl Claim {
             return Claim::Host(host_memory(machine));
         }
         let Some(node) = machine.rack().node(agent) else { return Claim::Nothing };
+        // "A held node claims nothing", whatever its registers say.
+        if machine.held(agent) {
+            return Claim::Nothing;
+        }
         let part = machine.part(agent);
         match &node.header {
             Header::Bridge(options) if agent == bus => {
@@ -114,9 +118,9 @@ impl Claim {
     }
 }
 
-/// The claims of all agents of a bus, in agent order.
+/// The claims of all agents of a bus that are not held, in agent order.
 pub fn bus_claims(machine: &Machine, bus: u8) -> Vec<(u8, Claim)> {
-    let agents = machine.rack().agents(bus).into_iter();
+    let agents = machine.free_agents(bus).into_iter();
     agents.map(|agent| (agent, Claim::of(machine, bus, agent))).collect()
 }
 
@@ -126,9 +130,10 @@ pub fn claims(machine: &Machine, bus: u8, agent: u8, address: Address) -> bool {
     Claim::of(machine, bus, agent).holds(address)
 }
 
-/// The region of a device that an address reaches, with the offset in it.
+/// The region of a device that an address on its bus reaches, with the offset in it.
 pub fn device_region(machine: &Machine, device: u8, address: Address) -> Option<(u8, u64)> {
-    Claim::of_device(machine.part(device), machine.rack().regions(device)?).reached(address)
+    let bus = machine.rack().node(device)?.parent;
+    Claim::of(machine, bus, device).reached(address)
 }
 
 /// All claimants of an address on a bus, in agent order: "An agent never claims what
@@ -160,15 +165,16 @@ impl BusNumbers {
     }
 }
 
-/// Each bridge that sits on a bus, with its bus numbers, in agent order.
+/// Each bridge that sits on a bus and is not held, with its bus numbers, in agent order.
 pub fn bridges_on(machine: &Machine, bus: u8) -> Vec<(u8, BusNumbers)> {
-    let nodes = machine.rack().nodes_on(bus).into_iter();
+    let nodes = machine.rack().nodes_on(bus).into_iter().filter(|node| !machine.held(*node));
     let bridges = nodes.filter(|node| machine.rack().bridge(*node).is_some());
     bridges.map(|bridge| (bridge, BusNumbers::of(machine, bridge))).collect()
 }
 
 /// All claimants of a Type 1 access on a bus, in agent order: "claimed by each bridge
-/// on that bus with secondary ≤ bus ≤ subordinate". "Command bits play no part."
+/// on that bus with secondary ≤ bus ≤ subordinate". "Command bits play no part." Those that are
+/// held are none.
 pub fn config_claimants(machine: &Machine, bus: u8, number: u8) -> Vec<u8> {
     let bridges = bridges_on(machine, bus).into_iter();
     bridges.filter(|(_, numbers)| numbers.hold(number)).map(|(bridge, _)| bridge).collect()

@@ -14,7 +14,7 @@ pub const LONGEST: usize = 65_536;
 /// A refusal of a file: "`refused N at O`".
 #[derive(Clone, Copy, Debug, PartialEq, Eq)]
 pub struct Refused {
-    /// 1 to 10 and 13 to 17.
+    /// 1 to 10 and 13 to 18.
     pub number: u8,
     /// "the record's offset (65,536 for 1; 0 if empty)"
     pub offset: usize,
@@ -136,7 +136,7 @@ struct Reading {
 }
 
 impl Reading {
-    /// Takes one record and gives its body's length, or the refusal (4 to 17).
+    /// Takes one record and gives its body's length, or the refusal (4 to 18).
     fn take(&mut self, kind: u8, body: &[u8]) -> Result<usize, u8> {
         match (&mut self.rack, kind) {
             (None, 1) => {
@@ -157,8 +157,8 @@ impl Reading {
             // 5: "A rack record follows an event.", which "also covers a register record".
             (Some(_), _) if !self.events.is_empty() => return Err(5),
             (Some(rack), 11) => {
-                let (saved, before) = (saved(body), self.registers.last());
-                match refuse::registers(rack, before.map(|before| before.node), &saved) {
+                let saved = saved(body);
+                match refuse::registers(rack, &self.registers, &saved) {
                     Some(number) => return Err(number),
                     None => self.registers.push(saved),
                 }

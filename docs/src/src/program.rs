@@ -22,7 +22,7 @@ pub struct Run {
 
 impl Run {
     /// "the run starts as seat 0, which may write all"; it "starts from these registers instead
-    /// of reset", those of the register records. Or the number (6 to 10, 16, 17) that refuses
+    /// of reset", those of the register records. Or the number (6 to 10, 16 to 18) that refuses
     /// what no file holds.
     pub fn start(contents: &Contents) -> Result<Run, u8> {
         let machine = Machine::with_registers(contents.rack.clone(), &contents.registers)?;
@@ -96,7 +96,7 @@ pub fn run(bytes: &[u8], out: &mut impl Write) -> io::Result<()> {
         // "A refused input prints only `refused N at O`."
         Err(refused) => return writeln!(out, "{refused}"),
     };
-    // What was read from a file has passed refusals 6 to 10, 16 and 17.
+    // What was read from a file has passed refusals 6 to 10 and 16 to 18.
     if let Ok(mut run) = Run::start(&contents) {
         let mut checked = None;
         for (number, event) in (1usize..).zip(&contents.events) {

@@ -157,6 +157,22 @@ impl Rack {
         std::iter::once(bus).chain(self.nodes_on(bus)).collect()
     }
 
+    /// The bridges above a node, from the one that holds its bus upwards.
+    pub fn bridges_above(&self, node: u8) -> impl Iterator<Item = u8> + '_ {
+        let holder = |node: u8| {
+            let parent = self.node(node)?.parent;
+            // An earlier bridge has a smaller number, so this ends; the root bus is 255.
+            (parent < node).then_some(parent)
+        };
+        std::iter::successors(holder(node), move |bridge| holder(*bridge))
+    }
+
+    /// All nodes below a bridge, at every depth, by number.
+    pub fn nodes_below(&self, bridge: u8) -> Vec<u8> {
+        let numbers = self.numbered().map(|(number, _)| number);
+        numbers.filter(|node| self.bridges_above(*node).any(|above| above == bridge)).collect()
+    }
+
     /// "The root bus has depth 0, a bridge's bus one more than the bus it sits on."
     pub fn depth(&self, bus: u8) -> usize {
         match self.bridge(bus) {

@@ -1,6 +1,7 @@
-//! "Refused, in this order": 6 to 17, of a decoded rack, images, a call's fields and register
+//! "Refused, in this order": 6 to 18, of a decoded rack, images, a call's fields and register
 //! records.
 
+use crate::held;
 use crate::rack::{Event, Header, Node, Rack, Region, HOST, MOST_BRIDGES, MOST_DEVICES};
 use crate::registers::{self, Saved};
 
@@ -86,9 +87,19 @@ fn fixed_bits(rack: &Rack, bridges: &[u8], devices: &[u8]) -> Option<u8> {
     differs.then_some(12)
 }
 
-/// Refusals 11 and 12, of two images for a rack that is not refused.
+/// 18: "below a set bit 6 all registers have reset values", status bits too.
+fn agreement(rack: &Rack, bridges: &[u8], devices: &[u8]) -> Option<u8> {
+    let part = |node: u8| registers::part(rack, bridges, devices, node);
+    let mut held = rack.numbered().filter(|(number, _)| held::is_held(rack, *number, part));
+    held.any(|(number, node)| !registers::equals_reset(node, part(number))).then_some(18)
+}
+
+/// Refusals 11, 12 and 18, of two images for a rack that is not refused: "calls give it straight
+/// after 12", so that 12 is looked at for every node before.
 pub fn images(rack: &Rack, bridges: &[u8], devices: &[u8]) -> Option<u8> {
-    lengths(rack, bridges, devices).or_else(|| fixed_bits(rack, bridges, devices))
+    lengths(rack, bridges, devices)
+        .or_else(|| fixed_bits(rack, bridges, devices))
+        .or_else(|| agreement(rack, bridges, devices))
 }
 
 /// The fields of a call that refusal 13 speaks of; a call leaves out those it has not.
@@ -157,8 +168,8 @@ pub fn grants(rack: &Rack) -> Option<u8> {
     rack.grants.is_faulty().then_some(14)
 }
 
-/// Refusals 6 to 14 of a call: "6 to 10 to the decoded rack node by node, ...,
-/// then 11 to 13, and return the number"; 14 comes "after 13".
+/// Refusals 6 to 14 and 18 of a call: "6 to 10 to the decoded rack node by node, ...,
+/// then 11 to 13, and return the number"; 18 comes "straight after 12", 14 "after 13".
 pub fn call(decoded: &Rack, bridges: &[u8], devices: &[u8], named: &Fields) -> Option<u8> {
     rack(decoded)
         .or_else(|| images(decoded, bridges, devices))
@@ -179,17 +190,30 @@ pub fn seat_of_event(rack: &Rack, event: &Event) -> Option<u8> {
     }
 }
 
-/// Refusals 16 and 17 of a register record that follows one of the node `before`, or none: "A
-/// register record whose node is missing or not above the one before is 16, and one that equals
-/// reset or changes a fixed bit is 17".
-pub fn registers(rack: &Rack, before: Option<u8>, saved: &Saved) -> Option<u8> {
-    let above = before.is_none_or(|before| saved.node > before);
+/// Refusals 16 to 18 of a register record behind the `earlier` ones: "A register record whose node
+/// is missing or not above the one before is 16, and one that equals reset or changes a fixed bit
+/// is 17"; "An image that breaks the agreement is 18, after 17".
+pub fn registers(rack: &Rack, earlier: &[Saved], saved: &Saved) -> Option<u8> {
+    let above = earlier.last().is_none_or(|before| saved.node > before.node);
     match rack.node(saved.node).filter(|_| above) {
         None => Some(16),
-        Some(node) => {
-            let fault = registers::equals_reset(node, &saved.part)
-                || registers::fixed_bit_differs(node, &saved.part);
-            fault.then_some(17)
-        }
+        Some(node) if is_no_record(node, saved) => Some(17),
+        Some(_) if below_reset(rack, earlier, saved) => Some(18),
+        Some(_) => None,
     }
+}
+
+/// 17: "one that equals reset or changes a fixed bit".
+fn is_no_record(node: &Node, saved: &Saved) -> bool {
+    registers::equals_reset(node, &saved.part) || registers::fixed_bit_differs(node, &saved.part)
+}
+
+/// 18: the node is held, while its record differs from reset by 17. The bridges above it have
+/// smaller numbers, so that by 16 their records are all among the earlier ones; a bridge that has
+/// none is at reset, with bit 6 clear.
+fn below_reset(rack: &Rack, earlier: &[Saved], saved: &Saved) -> bool {
+    held::is_held(rack, saved.node, |bridge| {
+        let record = earlier.iter().find(|record| record.node == bridge);
+        record.map_or(&[], |record| &record.part)
+    })
 }

@@ -74,8 +74,8 @@ fn add_bridge(masks: &mut Masks) {
     // "24h, 26h prefetchable base and limit FFF0h"
     put(&mut masks.write, 0x24, &0xFFF0u16.to_le_bytes());
     put(&mut masks.write, 0x26, &0xFFF0u16.to_le_bytes());
-    // "3Eh bridge control 003Fh", of which bit 4 is an option's.
-    put(&mut masks.write, 0x3E, &0x002Fu16.to_le_bytes());
+    // "3Eh bridge control 003Fh", of which bit 4 is an option's; bit 6 "becomes writable" (E5).
+    put(&mut masks.write, 0x3E, &0x006Fu16.to_le_bytes());
 }
 
 /// What each option adds. Without it these bits are as all that no list names: "The rest is
@@ -93,7 +93,7 @@ fn add_options(masks: &mut Masks, options: &Options) {
         put(&mut masks.write, 0x28, &[0xFF; 8]);
     }
     if options.vga_16 {
-        put(&mut masks.write, 0x3E, &0x003Fu16.to_le_bytes());
+        put(&mut masks.write, 0x3E, &0x007Fu16.to_le_bytes());
     }
 }
 
@@ -163,6 +163,17 @@ fn part_start(rack: &Rack, node: u8) -> Option<usize> {
     let this = rack.node(node)?;
     let before = rack.nodes.iter().take(usize::from(node));
     Some(PART * before.filter(|other| other.is_bridge() == this.is_bridge()).count())
+}
+
+/// The same for all nodes, by number.
+pub fn part_starts(rack: &Rack) -> Vec<usize> {
+    let (mut bridges, mut devices) = (0, 0);
+    let start = |node: &Node| {
+        let end = if node.is_bridge() { &mut bridges } else { &mut devices };
+        *end += PART;
+        *end - PART
+    };
+    rack.nodes.iter().map(start).collect()
 }
 
 /// "The register view hands back that part of whichever of the two lent images

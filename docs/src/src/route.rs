@@ -60,14 +60,19 @@ fn starting_bus(machine: &Machine, initiator: u8) -> u8 {
     machine.rack().node(initiator).map_or(HOST, |node| node.parent)
 }
 
-/// The route of a memory or I/O access, or none: "A device with command bit 2 clear
-/// drives nothing."
+/// The route of a memory or I/O access, or none if its initiator is silent.
 pub fn access_route(machine: &Machine, initiator: u8, address: Address) -> Option<Route> {
-    if initiator != HOST && !machine.command_bit(initiator, 2) {
+    if is_silent(machine, initiator) {
         return None;
     }
     let bus = starting_bus(machine, initiator);
     Some(bus_step(machine, bus, initiator, address, Vec::new()))
+}
+
+/// "A device with command bit 2 clear drives nothing."; "A held initiator's access is `silent`."
+/// The host is neither.
+fn is_silent(machine: &Machine, initiator: u8) -> bool {
+    initiator != HOST && (machine.held(initiator) || !machine.command_bit(initiator, 2))
 }
 
 /// What a bus does with an access: "With no claimant the access is unclaimed, with two
@@ -154,7 +159,8 @@ pub fn config_route(machine: &Machine, number: u8, target: Target) -> Route {
 
 /// What becomes of an access on the bus that its number names. A special cycle is one "on
 /// the root bus for bus 0 and otherwise on the secondary bus where the access would turn
-/// into Type 0"; any other access is Type 0 there.
+/// into Type 0"; any other access is Type 0 there. Whether the bus is held is asked for Type 0
+/// only: "a special cycle still ends as one".
 fn bus_reached(machine: &Machine, bus: u8, target: Target, crossings: Vec<Crossing>) -> Route {
     let ending = match target {
         Target::Function(device_function) => type_0(machine, bus, device_function),
@@ -164,8 +170,12 @@ fn bus_reached(machine: &Machine, bus: u8, target: Target, crossings: Vec<Crossi
 }
 
 /// "Type 0 reaches the node of that device number, function 0, which owns it;
-/// otherwise, and for devices 16 to 31, it is unclaimed."
+/// otherwise, and for devices 16 to 31, it is unclaimed." "configuration finds nobody on a held
+/// bus".
 fn type_0(machine: &Machine, bus: u8, device_function: u8) -> Ending {
+    if machine.bus_held(bus) {
+        return Ending::Unclaimed;
+    }
     let (device, function) = (device_function >> 3, device_function & 7);
     let rack = machine.rack();
     let mut here = rack.numbered().filter(|(_, node)| node.parent == bus);

@@ -167,7 +167,7 @@ impl Call {
             8 => calls::event_of_bytes(rack, &self.event, b, d, self.node).map(ending),
             // "check"
             9 => calls::check_of_bytes(rack, b, d).map(ending),
-            // "reset of both images: refused by 1 to 10, then 11, then 14, never by 12"
+            // "reset of both images: refused by 1 to 10, then 11, then 14, never by 12 or 18"
             10 => calls::reset_of_bytes(rack, b, d).map(|()| numbers(&[])),
             // "both ends of a window or region"
             11 => calls::ends_of_bytes(rack, b, d, self.node, self.named).map(both_ends),

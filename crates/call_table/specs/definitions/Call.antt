@@ -9,8 +9,9 @@ use Rattle.rack.specs.definitions.Tree.{Tree}
 use Rattle.rack.specs.definitions.Refusal.{rackRefusal}
 use Rattle.seat.specs.definitions.Grants.{Grants, Acting, unknownSeat}
 use Rattle.register_header.specs.definitions.Register.{readRegister}
-use Rattle.register_image.specs.definitions.Image.{Images, Result, view, writeNode, gives}
-use Rattle.register_image.specs.definitions.Fixed.{imageRefusal}
+use Rattle.register_image.specs.definitions.Image.{Images, Result, view, gives}
+use Rattle.bus_reset.specs.definitions.Agreement.{imageRefusal}
+use Rattle.bus_reset.specs.definitions.Store.{storeNode}
 use Rattle.register_image.specs.definitions.Sizing.{sizeRegion}
 use Rattle.claim_agent.specs.definitions.WindowEnds.{windowEnds}
 use Rattle.check_search.specs.definitions.Check.{check}
@@ -27,8 +28,8 @@ use Rattle.call_table.specs.declared.RangeReply.{RangeReply}
 use Rattle.call_table.specs.declared.RangeReply.the-variants as range-reply
 
 -- 01: 'Calls apply 6 to 10 to the decoded rack node by node, as a file would meet them, then 11 to 13, and return the number'; 02, E1: 14
--- and 15, 'both after 13'; 0 where the call is accepted. `field` is 13 where a field that the call is given is wrong, `seat` 15 where a
--- seat is unknown, and 0 else
+-- and 15, 'both after 13'; E5: 18 'straight after 12', among those of the images; 0 where the call is accepted. `field` is 13 where a field
+-- that the call is given is wrong, `seat` 15 where a seat is unknown, and 0 else
 unfoldable pub refusalBy : Tree → Grants → Images → ℕ → ℕ → ℕ
 refusalBy t g im field seat = rackRefusal t or imageRefusal t im or field or 14 when (g .wrong) or seat
 
@@ -86,7 +87,7 @@ sizeIn t g im i r = unless (refusalBy t g im (regionRefusal t i r) 0) (number.Va
 -- a refused write stores nothing
 unfoldable pub storedIn : Tree → Grants → Images → ℕ → ℕ → ℕ → ℕ → Images
 storedIn t g im i register enables put =
-    unless (refusalBy t g im (storeRefusal t i register enables) 0) (writeNode t im i register enables put) (λ n. im)
+    unless (refusalBy t g im (storeRefusal t i register enables) 0) (storeNode t im i register enables put) (λ n. im)
 
 -- 01: 'The view shows an empty part'
 unfoldable pub viewIn : Tree → Grants → Images → ℕ → List ℕ

@@ -19,7 +19,7 @@ use Rattle.register_header.specs.definitions.Register.{bitAt, dwordAt}
 use Rattle.register_header.specs.laws.Bits.{bit, bit-lt, bit-and}
 use Rattle.register_header.specs.laws.Lacked.{lacked-none}
 use Rattle.register_image.specs.definitions.Image.{Images, view}
-use Rattle.register_image.specs.definitions.Fixed.{imageRefusal}
+use Rattle.bus_reset.specs.definitions.Agreement.{imageRefusal}
 use Rattle.register_laws.specs.laws.Lacked.{accepted-lacked}
 use Rattle.claim_window.specs.definitions.Range.{window}
 use Rattle.claim_window.specs.definitions.Window.{wordAt, memoryOf, prefetchableOf, ioOf, windowsOf}
@@ -109,7 +109,7 @@ zero-by true x z = refl
 zero-by false x z = sym (z refl)
 
 -- a bit that two bytes share outside a mask
-same-bit : (x y m k : ℕ) → bitAnd x m ≡ bitAnd y m → bit m k ≡ 1 → bit x k ≡ bit y k
+pub same-bit : (x y m k : ℕ) → bitAnd x m ≡ bitAnd y m → bit m k ≡ 1 → bit x k ≡ bit y k
 same-bit x y m k e one =
     let r : min (bit x k) 1 ≡ min (bit y k) 1 =
     rw one at (sym (bit-and x m k) ∙ ap (λ (z : ℕ). bit z k) e ∙ bit-and y m k) in

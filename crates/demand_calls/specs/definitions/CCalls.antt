@@ -5,7 +5,7 @@ use mathlib.Core.List.{List, [], _∷_}
 use mathlib.Core.Logic.{_⊎_}
 use Prim.Native.Nat.{ℕ, _≤_}
 use Rattle.register_image.specs.definitions.Image.{Images}
-use Rattle.register_image.specs.definitions.Fixed.{imageRefusal}
+use Rattle.bus_reset.specs.definitions.Agreement.{imageRefusal}
 use Rattle.file_record.specs.definitions.Load.{rackAlone}
 use Rattle.call_numbers.specs.definitions.Called.{Called, refusedCall}
 use Rattle.muzgante.specs.definitions.Called.{rackRun}

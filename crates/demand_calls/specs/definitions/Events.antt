@@ -128,7 +128,7 @@ specialReply im gs holder = gives (reply.Answered (Ended (length gs) (Special ho
 -- holder, and there to node g, the one of that device number, function 0
 pub record AtOwner (t : Tree) (im : Images) (x : Access) (gs : List ℕ) (holder g : ℕ) : Type 0 where
   pub path : ToType0 t im x gs holder
-  pub owner : Selected t holder (x .devfn) g
+  pub owner : Selected t im holder (x .devfn) g
 
 -- 'A write that reaches a register outside the grant': the seat that acts is not 0, the register is below 40h, and its dword not granted
 pub record Outside (by : Acting) (register g : ℕ) : Type 0 where

@@ -9,8 +9,9 @@ use Rattle.rack.specs.laws.FirstLaws.{when-not, or-this, or-next, or-none, unle
 use Rattle.rack.specs.definitions.Tree.{Tree}
 use Rattle.rack.specs.definitions.Refusal.{rackRefusal}
 use Rattle.seat.specs.definitions.Grants.{Grants, Acting}
-use Rattle.register_image.specs.definitions.Image.{Images, view, writeNode, gives}
-use Rattle.register_image.specs.definitions.Fixed.{imageRefusal}
+use Rattle.register_image.specs.definitions.Image.{Images, view, gives}
+use Rattle.bus_reset.specs.definitions.Agreement.{imageRefusal}
+use Rattle.bus_reset.specs.definitions.Store.{storeNode}
 use Rattle.file_record.specs.declared.Event.{Event}
 use Rattle.event_run.specs.definitions.Run.{eventRun}
 use Rattle.claim_agent.specs.definitions.WindowEnds.{windowEnds}
@@ -117,7 +118,7 @@ module _ (t : Tree) (g : Grants) (im : Images) where
 
   -- an accepted one does
   pub write-stores : (i register enables put : ℕ) → refusalBy t g im (storeRefusal t i register enables) 0 ≡ 0
-      → storedIn t g im i register enables put ≡ writeNode t im i register enables put
+      → storedIn t g im i register enables put ≡ storeNode t im i register enables put
   unfolding storedIn
   write-stores i register enables put z = unless-none _ _ z
 

@@ -19,7 +19,6 @@ use Rattle.seat_laws.specs.laws.Kept.{kept-refl, kept-trans}
 use Rattle.seat_laws.specs.laws.Events.{event-kept}
 use Rattle.seat_laws.specs.laws.Denied.{at-node, not-ends, is-stored, is-denied, would-store, only-denied}
 use Rattle.register_image.specs.definitions.Image.{Images, Result}
-use Rattle.register_laws.specs.laws.Accepted as images
 use Rattle.claim_agent.specs.declared.Space.the-variants as space
 use Rattle.route_bus.specs.declared.Access.{Access}
 use Rattle.route_bus.specs.declared.End.{End}
@@ -28,7 +27,7 @@ use Rattle.route.specs.definitions.Route.{access}
 use Rattle.route_laws.specs.definitions.Ends.{endNumber, endsAtNode}
 use Rattle.route_laws.specs.laws.Arrives.{node-fails, access-none}
 use Rattle.check_search.specs.definitions.Check.{check}
-use Rattle.demand_passed.specs.laws.Ways.{target-selected}
+use Rattle.demand_passed.specs.laws.Ways.{found-selected}
 use Rattle.file_record.specs.declared.Event.{Event}
 use Rattle.file_record.specs.declared.Event.the-variants.{Write, Read, Memory, Io, Check, Seat}
 use Rattle.event_run.specs.declared.Ending.the-variants.{Denied}
@@ -43,7 +42,7 @@ use Rattle.demand_calls.specs.laws.Refusing.{field-right, event-untouche
 -- a node that was reached is the one of that device number, function 0
 owns : (t : Tree) (im : Images) (x : Access) {gs : List ℕ} {holder g : ℕ} → Arrives t im x gs holder g → AtOwner t im x gs holder g
 owns t im x {gs} {holder} {g} a =
-    record { path = a .path; owner = rw (← a .node) (target-selected t holder (x .devfn) (λ z. a .some (sym (a .node) ∙ z))) }
+    record { path = a .path; owner = rw (← a .node) (found-selected t im holder (x .devfn) (λ z. a .some (sym (a .node) ∙ z))) }
 
 module _ (t : Tree) (by : Acting) (im : Images) where
   -- a memory or I/O access has neither number
@@ -148,8 +147,7 @@ module _ (t : Tree) (by : Acting) (im : Images) where
       let z : _≡_ {A = ℕ} 0 2 = rw (event-untouched t zero im e (eqb-false (runRefusal t zero im e) 0 q)) at n in
       absurd (omega arith))
 
--- 'After any list of events by one seat other than 0, a register outside its grants differs at most in status bits', refused ones and seat
--- events among them
+-- what a seat other than 0 leaves after any list of events, refused ones and seat events among them
 module _ (t : Tree) (stored : rackRefusal t ≡ 0 → Stored t) where
   pub seat-kept : (by : Acting) → (by .seat ≡ 0 → ⊥) → (im : Images) (e : Event) → Kept t by im (runIn t by im e .after)
   seat-kept by other im e =
@@ -158,7 +156,7 @@ module _ (t : Tree) (stored : rackRefusal t ≡ 0 → Stored t) where
       let z = eqb-true (runRefusal t by im e) 0 q in
       let a = event-accepted t by im e z in
       rw (event-runs t by im e z)
-      (event-kept t (stored (a .0)) by other im (images.accepted t im (a .1) .0) e (field-right (a .2))))
+      (event-kept t (stored (a .0)) by other im (a .1) e (field-right (a .2))))
       (λ q. rw (event-untouched t by im e (eqb-false (runRefusal t by im e) 0 q)) (kept-refl t by im))
 
   pub seat-keeps : (g : Grants) (seat : ℕ) → (seat ≡ 0 → ⊥) → (es : List Event) (im : Images)

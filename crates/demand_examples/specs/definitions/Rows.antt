@@ -1,5 +1,5 @@
--- Document 01, 'Windows and racks to prove', and the same of older bridges, special cycles and seats: one table of the definitions, and one
--- theorem over it.
+-- Document 01, 'Windows and racks to prove', and the same of older bridges, special cycles, seats and bus resets: one table of the definitions, and
+-- one theorem over it.
 use mathlib.Core.Bool.{Bool, true, false, not, _&&_, cond}
 use mathlib.Core.List.{List, [], _∷_, _++_}
 use Prim.Native.Nat.{ℕ, _+_, _-_, _*_, _/_, _%_}
@@ -36,11 +36,11 @@ use Rattle.claim_window.specs.definitions.Window.{windowsOf}
 use Rattle.claim_window.specs.definitions.Inside.{inMemory, inPrefetchable, insideIo}
 use Prim.Native.String.{String}
 use Rattle.file_record.specs.declared.Event.{Event}
-use Rattle.file_record.specs.declared.Event.the-variants.{Write, Read, Seat}
+use Rattle.file_record.specs.declared.Event.the-variants as event
 use Rattle.event_run.specs.definitions.Run.{eventRun}
 use Rattle.print_file.specs.definitions.Output.{answerLine}
 use Rattle.rack.specs.definitions.Refusal.{rackRefusal}
-use Rattle.register_image.specs.definitions.Fixed.{imageRefusal}
+use Rattle.bus_reset.specs.definitions.Agreement.{imageRefusal}
 use Rattle.print_line.specs.definitions.Line.{reportLine}
 use Rattle.print_line.specs.definitions.Text.{codesOf}
 
@@ -220,6 +220,11 @@ carrying = fitted (nodeOn Bridge host 0 noRegion) (byte 0x19 0x05 ∷ byte 0x1a 
 abbrev pub below : List Fitted
 below = carrying ++ (fitted (nodeOn Device 0 0 noRegion) [] ∷ [])
 
+-- the same with bit 6 of bridge control set, of either kind of bridge, so that the card is held
+abbrev pub resetting : Kind → List Fitted
+resetting kind =
+    fitted (nodeOn kind host 0 noRegion) (byte 0x19 0x05 ∷ byte 0x1a 0x06 ∷ byte 0x3e 0x40 ∷ []) ∷ fitted (nodeOn Device 0 0 noRegion) [] ∷ []
+
 -- the table, each row with its item's number
 abbrev pub rows : List Row
 rows =
@@ -252,15 +257,22 @@ rows =
     -- 12: 'The same without device 2: pass'
     ∷ checks two Pass "1 pass\n"
     -- 02, E4: 'A configuration write to device 31, function 7, register 0 is one', with no byte enabled too
-    ∷ ends carrying (Write 0 0xff 0 0xf 0) "1 special 0 255\n"
-    ∷ ends carrying (Write 5 0xff 0 0 0) "1 special 1 0\n"
+    ∷ ends carrying (event.Write 0 0xff 0 0xf 0) "1 special 0 255\n"
+    ∷ ends carrying (event.Write 5 0xff 0 0 0) "1 special 1 0\n"
     -- a bus number that nobody carries, or that nobody below has
-    ∷ ends carrying (Write 4 0xff 0 0xf 0) "1 unclaimed 0 255 abort\n"
-    ∷ ends carrying (Write 6 0xff 0 0xf 0) "1 unclaimed 1 0 done\n"
+    ∷ ends carrying (event.Write 4 0xff 0 0xf 0) "1 unclaimed 0 255 abort\n"
+    ∷ ends carrying (event.Write 6 0xff 0 0xf 0) "1 unclaimed 1 0 done\n"
     -- a read, function 0 and register 4 are none
-    ∷ ends carrying (Read 5 0xff 0) "1 unclaimed 1 0 done\n"
-    ∷ ends carrying (Write 5 0xf8 0 0xf 0) "1 unclaimed 1 0 done\n"
-    ∷ ends carrying (Write 5 0xff 4 0xf 0) "1 unclaimed 1 0 done\n"
+    ∷ ends carrying (event.Read 5 0xff 0) "1 unclaimed 1 0 done\n"
+    ∷ ends carrying (event.Write 5 0xf8 0 0xf 0) "1 unclaimed 1 0 done\n"
+    ∷ ends carrying (event.Write 5 0xff 4 0xf 0) "1 unclaimed 1 0 done\n"
+    -- 02, E5: 'configuration finds nobody on a held bus, though a special cycle still ends as one'; the card is there without the bit
+    ∷ ends below (event.Read 5 0 0x3c) "1 data 1 00000000\n"
+    ∷ ends (resetting Bridge) (event.Read 5 0 0x3c) "1 unclaimed 1 0 done\n"
+    ∷ ends (resetting OlderBridge) (event.Write 5 0 4 0xf 6) "1 unclaimed 1 0 done\n"
+    ∷ ends (resetting Bridge) (event.Write 5 0xff 0 0xf 0) "1 special 1 0\n"
+    -- 'A held initiator's access is `silent`'
+    ∷ ends (resetting Bridge) (event.Memory 1 0 0x1000) "1 silent\n"
     -- 02, E11: 'I/O base and limit reset to 00 with 16-bit I/O'
     ∷ holds-of OlderBridge io [] (0x0 ∷ 0xFFF ∷ []) (0x1000 ∷ 0x10000 ∷ [])
     -- 'I/O at 10000h or above is outside the window', whatever 30h to 33h hold; of a bridge it is in
@@ -277,17 +289,17 @@ rows =
     ∷ reads Bridge 0x28 0xffffffff ∷ reads OlderBridge 0x28 0x00000000
     ∷ reads Bridge 0x2c 0xffffffff ∷ reads OlderBridge 0x2c 0x00000000
     ∷ reads Bridge 0x30 0xffffffff ∷ reads OlderBridge 0x30 0x00000000
-    ∷ reads Bridge 0x3c 0x003f00ff ∷ reads OlderBridge 0x3c 0x002f00ff
+    ∷ reads Bridge 0x3c 0x007f00ff ∷ reads OlderBridge 0x3c 0x006f00ff
     ∷ clears OlderBridge 0xa000 0x2000 0x8000  -- 9, of an older bridge
     -- 02, E1: 'bit i for dword i': bit 6 is that of 18h
-    ∷ acts 3 0x0040 carrying (Write 0 0 0x18 0xf 0) "1 stored 0\n" ∷ acts 3 0x0040 carrying (Write 0 0 0x1c 0xf 0) "1 denied 0\n"
+    ∷ acts 3 0x0040 carrying (event.Write 0 0 0x18 0xf 0) "1 stored 0\n" ∷ acts 3 0x0040 carrying (event.Write 0 0 0x1c 0xf 0) "1 denied 0\n"
     -- no byte enabled is denied too; 'Reads, and writes to 40h and above, are never denied'
-    ∷ acts 3 0 carrying (Write 0 0 0x3c 0 0) "1 denied 0\n" ∷ acts 3 0 carrying (Write 0 0 0x40 0xf 0) "1 stored 0\n"
-    ∷ acts 3 0 carrying (Read 0 0 0x18) "1 data 0 00060500\n"
+    ∷ acts 3 0 carrying (event.Write 0 0 0x3c 0 0) "1 denied 0\n" ∷ acts 3 0 carrying (event.Write 0 0 0x40 0xf 0) "1 stored 0\n"
+    ∷ acts 3 0 carrying (event.Read 0 0 0x18) "1 data 0 00060500\n"
     -- 'seat 0, which may write all'; no record for the node is an empty grant
-    ∷ acts 0 0 carrying (Write 0 0 0x18 0xf 0) "1 stored 0\n" ∷ acts 3 0xffff below (Write 5 0 4 0xf 0) "1 denied 1\n"
+    ∷ acts 0 0 carrying (event.Write 0 0 0x18 0xf 0) "1 stored 0\n" ∷ acts 3 0xffff below (event.Write 5 0 4 0xf 0) "1 denied 1\n"
     -- what reaches no node is not denied
-    ∷ acts 3 0 carrying (Write 5 0 4 0xf 0) "1 unclaimed 1 0 done\n" ∷ acts 3 0 carrying (Write 5 0xff 0 0xf 0) "1 special 1 0\n"
+    ∷ acts 3 0 carrying (event.Write 5 0 4 0xf 0) "1 unclaimed 1 0 done\n" ∷ acts 3 0 carrying (event.Write 5 0xff 0 0xf 0) "1 special 1 0\n"
     -- 'A seat event prints `seat` and its number'
-    ∷ acts 3 0 carrying (Seat 0) "1 seat 0\n"
+    ∷ acts 3 0 carrying (event.Seat 0) "1 seat 0\n"
     ∷ []

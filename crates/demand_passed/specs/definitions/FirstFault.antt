@@ -1,4 +1,5 @@
--- What a check shows: the first clash in document 01's order, and that all before it is clear.
+-- What a check shows: the first clash in document 01's order, and that all before it is clear. 02, E5: 'The check counts no held node as
+-- claimant or driver'.
 use mathlib.Core.Path.{_≡_}
 use mathlib.Core.List.{List, [], _∷_, _++_}
 use Prim.Native.Nat.{ℕ, _≤_, _<_}
@@ -8,8 +9,8 @@ use Rattle.register_image.specs.definitions.Image.{Images}
 use Rattle.claim_agent.specs.declared.Space.{Space}
 use Rattle.claim_agent.specs.declared.Space.the-variants.{Memory, Io, Configuration}
 use Rattle.claim_agent.specs.definitions.Space.{lastOf}
-use Rattle.claim_agent.specs.definitions.Claimants.{claimants}
-use Rattle.check_search.specs.definitions.Check.{driversOf, firstOf}
+use Rattle.check_search.specs.definitions.Check.{firstOf}
+use Rattle.held_laws.specs.definitions.Others.{otherClaimants, otherDrivers}
 
 -- every member of a list
 unfoldable pub Each : {A : Type 0} → (A → Type 0) → List A → Type 0
@@ -30,10 +31,10 @@ spaces = Configuration ∷ Memory ∷ Io ∷ []
 module _ (t : Tree) (im : Images) where
   -- at most one claimant: for a driver, for all drivers of every value of a space, and for all spaces of a bus
   abbrev pub Clear : ℕ → Space → ℕ → ℕ → Type 0
-  Clear bus space a driver = length (claimants t im space bus driver a) ≤ 1
+  Clear bus space a driver = length (otherClaimants t im space bus driver a) ≤ 1
 
   abbrev pub ClearAt : ℕ → Space → ℕ → Type 0
-  ClearAt bus space a = Each (Clear bus space a) (driversOf t bus space)
+  ClearAt bus space a = Each (Clear bus space a) (otherDrivers t im bus space)
 
   abbrev pub ClearIn : ℕ → Space → Type 0
   ClearIn bus space = (a : ℕ) → firstOf space ≤ a → a ≤ lastOf space → ClearAt bus space a
@@ -49,5 +50,5 @@ pub record FirstFault (t : Tree) (im : Images) (bus : ℕ) (space : Space) (a dr
   pub from-first : firstOf space ≤ a
   pub to-last : a ≤ lastOf space
   pub lower : (b : ℕ) → firstOf space ≤ b → b < a → ClearAt t im bus space b
-  pub driver-first : FirstOf (Clear t im bus space a) (driversOf t bus space) driver
-  pub two : (rest : List ℕ) × (claimants t im space bus driver a ≡ x ∷ (y ∷ rest))
+  pub driver-first : FirstOf (Clear t im bus space a) (otherDrivers t im bus space) driver
+  pub two : (rest : List ℕ) × (otherClaimants t im space bus driver a ≡ x ∷ (y ∷ rest))

@@ -9,6 +9,7 @@ use lib.ListN.{length}
 use Rattle.rack.specs.definitions.Node.{isBridge}
 use Rattle.rack.specs.definitions.Tree.{Tree, host, parentOf}
 use Rattle.register_image.specs.definitions.Image.{Images, Result, view}
+use Rattle.bus_reset.specs.definitions.Held.{heldBus}
 use Rattle.claim_agent.specs.declared.Space.the-variants.{Memory, Io, Configuration}
 use Rattle.claim_agent.specs.definitions.Agent.{deviceOf}
 use Rattle.claim_laws.specs.definitions.Reach.{areaAt, Reach}
@@ -43,16 +44,18 @@ pub record Silenced (t : Tree) (im : Images) (i : ℕ) (e : End) : Type 0 where
   pub off : drives t im i ≡ false
   pub end : e ≡ Silent
 
--- node g is the one that Type 0 configuration reaches on a bus: that device number, function 0
-pub record Selected (t : Tree) (bus devfn g : ℕ) : Type 0 where
+-- node g is the one that Type 0 configuration reaches on a bus: that device number, function 0. 02, E5: 'configuration finds nobody on
+-- a held bus'
+pub record Selected (t : Tree) (im : Images) (bus devfn g : ℕ) : Type 0 where
+  pub free : heldBus t im bus ≡ false
   pub node : g < t .count
   pub on-bus : parentOf t g ≡ bus
   pub number : t .node g .device ≡ devfn / 8
   pub function : devfn % 8 ≡ 0
 
 -- there is none
-abbrev pub NoneSelected : Tree → ℕ → ℕ → Type 0
-NoneSelected t bus devfn = (g : ℕ) → Selected t bus devfn g → ⊥
+abbrev pub NoneSelected : Tree → Images → ℕ → ℕ → Type 0
+NoneSelected t im bus devfn = (g : ℕ) → Selected t im bus devfn g → ⊥
 
 module _ (t : Tree) (im : Images) (x : Access) where
   -- the last bus of an access, by its end e and the images u that it leaves: nobody claims what is unclaimed there, the host alone what
@@ -60,10 +63,10 @@ module _ (t : Tree) (im : Images) (x : Access) where
   -- base; Type 0 ends at the one node of that device number, function 0. Never a clash; what finds its owner changes no image.
   -- 02, E4: 'From then on an access in a passed rack may also end this way': a special cycle as Type 0, and it changes none either
   abbrev pub Last : ℕ → ℕ → Bool → End → Images → Type 0
-  Last bus driver true (Node g) u = Selected t bus (x .devfn) g × (u ≡ im)
+  Last bus driver true (Node g) u = Selected t im bus (x .devfn) g × (u ≡ im)
   Last bus driver true (Owner g r o) u = ⊥
   Last bus driver true (Host o) u = ⊥
-  Last bus driver true (Unclaimed k o) u = (k ≡ bus) × NoneSelected t bus (x .devfn) × (isSpecialCycle x ≡ false)
+  Last bus driver true (Unclaimed k o) u = (k ≡ bus) × NoneSelected t im bus (x .devfn) × (isSpecialCycle x ≡ false)
   Last bus driver true (Clash k y z) u = ⊥
   Last bus driver true (Special k) u = (k ≡ bus) × (isSpecialCycle x ≡ true) × (u ≡ im)
   Last bus driver true Silent u = ⊥

@@ -16,6 +16,7 @@ use Rattle.rack.specs.definitions.Stored.{Stored}
 use Rattle.rack.specs.definitions.Refusal.{rackRefusal}
 use Rattle.rack_laws.specs.laws.Sound.{devices-differ}
 use Rattle.register_image.specs.definitions.Image.{Images, Result, view}
+use Rattle.bus_reset.specs.definitions.Held.{heldBus}
 use Rattle.claim_agent.specs.declared.Space.{Space}
 use Rattle.claim_agent.specs.declared.Space.the-variants.{Memory, Io, Configuration}
 use Rattle.claim_agent.specs.declared.DeviceClaims.{DeviceClaims}
@@ -33,19 +34,21 @@ use Rattle.route_bus.specs.declared.Sight.{Sight}
 use Rattle.route_bus.specs.declared.Sight.the-variants.{Ends, Crosses}
 use Rattle.route_bus.specs.definitions.End.{ifUnclaimed, ends}
 use Rattle.route_bus.specs.laws.EndLaws.{by-end}
-use Rattle.route_bus.specs.definitions.Look.{isIo, unclaimed, owned, claimed, direct, target, look}
+use Rattle.route_bus.specs.definitions.Look.{isIo, unclaimed, owned, claimed, target, found, direct, look}
 use Rattle.route_bus.specs.laws.LookLaws.{by-direct}
 use Rattle.route_bus.specs.definitions.Cross.{otherBus, turnsType0, crossed}
 use Rattle.route.specs.definitions.Route.{follow, busStep, bridgeStep, possible, from, returned, started}
 use Rattle.route_laws.specs.definitions.Ends.{isClash}
 use Rattle.route_laws.specs.definitions.Path.{Taken, claimantsOn, Path}
 use Rattle.route_laws.specs.laws.Takers.{Follows, look-follows}
+use Rattle.route_laws.specs.laws.HeldBus.{found-free}
 use Rattle.route_laws.specs.laws.Possible.{Enough, onward, possible-is}
 use Rattle.demand_passed.specs.definitions.Way.{Selected, NoneSelected, Last, Way}
 
 -- in an accepted rack it is the only one
-pub selected-one : (t : Tree) → rackRefusal t ≡ 0 → (bus devfn g k : ℕ) → Selected t bus devfn g → Selected t bus devfn k → g ≡ k
-selected-one t ok bus devfn g k s r =
+pub selected-one : (t : Tree) (im : Images) → rackRefusal t ≡ 0 → (bus devfn g k : ℕ) → Selected t im bus devfn g
+    → Selected t im bus devfn k → g ≡ k
+selected-one t im ok bus devfn g k s r =
     tested (eqb g k) (λ q. eqb-true g k q)
     (λ q.
     absurd
@@ -68,40 +71,43 @@ next-fails f i (suc left) few e k l m =
     ⊎-elim (λ u. ap f (sym u) ∙ q) (λ u. next-fails f (i + 1) left (omega arith) (rw q at e) k (omega arith) (omega arith))
     (eq-or-lt-of-le l))
 
-module _ (t : Tree) (bus devfn : ℕ) where
+module _ (t : Tree) (im : Images) (bus devfn : ℕ) where
   sits : ℕ → Bool
   sits i = eqb (parentOf t i) bus && eqb (t .node i .device) (devfn / 8)
 
-  target-is : eqb (devfn % 8) 0 ≡ true → target t bus devfn ≡ nextFrom sits 0 (t .count)
-  unfolding target sits
-  target-is q = rw q
+  found-is : heldBus t im bus ≡ false → eqb (devfn % 8) 0 ≡ true → found t im bus devfn ≡ nextFrom sits 0 (t .count)
+  unfolding found target sits
+  found-is free q = rw (free, q)
 
-  target-none : eqb (devfn % 8) 0 ≡ false → target t bus devfn ≡ 255
-  unfolding target
-  target-none q = rw q
+  found-none : heldBus t im bus ≡ false → eqb (devfn % 8) 0 ≡ false → found t im bus devfn ≡ 255
+  unfolding found target
+  found-none free q = rw (free, q)
 
-  found-selected : eqb (devfn % 8) 0 ≡ true → (nextFrom sits 0 (t .count) ≡ 255 → ⊥) → Selected t bus devfn (nextFrom sits 0 (t .count))
+  next-selected : heldBus t im bus ≡ false → eqb (devfn % 8) 0 ≡ true → (nextFrom sits 0 (t .count) ≡ 255 → ⊥)
+      → Selected t im bus devfn (nextFrom sits 0 (t .count))
   unfolding sits
-  found-selected q m =
+  next-selected free q m =
       let p = both (eqb (parentOf t (nextFrom sits 0 (t .count))) bus) _ (next-passes sits 0 (t .count) m) in
       record {
+        free = free;
         node = omega (arith, next-below sits 0 (t .count) m);
         on-bus = eqb-true _ bus (p .0);
         number = eqb-true _ (devfn / 8) (p .1);
         function = eqb-true (devfn % 8) 0 q;
       }
 
-  -- a target that is found is that node
-  pub target-selected : (target t bus devfn ≡ 255 → ⊥) → Selected t bus devfn (target t bus devfn)
-  target-selected ne =
-      tested (eqb (devfn % 8) 0) (λ q. rw (target-is q) (found-selected q (λ e. ne (target-is q ∙ e))))
-      (λ q. absurd (ne (target-none q)))
+  -- a node that is found is that node
+  pub found-selected : (found t im bus devfn ≡ 255 → ⊥) → Selected t im bus devfn (found t im bus devfn)
+  found-selected ne =
+      let free = found-free t im bus devfn ne in
+      tested (eqb (devfn % 8) 0) (λ q. rw (found-is free q) (next-selected free q (λ e. ne (found-is free q ∙ e))))
+      (λ q. absurd (ne (found-none free q)))
 
   -- and where none is found there is none
-  none-selected : t .count ≤ 255 → target t bus devfn ≡ 255 → NoneSelected t bus devfn
-  unfolding target sits
+  none-selected : t .count ≤ 255 → found t im bus devfn ≡ 255 → NoneSelected t im bus devfn
+  unfolding sits
   none-selected few e g s =
-      let z : nextFrom sits 0 (t .count) ≡ 255 = rw (eq-eqb (devfn % 8) 0 (s .function)) at e in
+      let z : nextFrom sits 0 (t .count) ≡ 255 = sym (found-is (s .free) (eq-eqb (devfn % 8) 0 (s .function))) ∙ e in
       let n = next-fails sits 0 (t .count) (omega arith) z g (omega arith) (omega (arith, s .node)) in
       true≢false (sym (rw (eq-eqb (parentOf t g) bus (s .on-bus), eq-eqb (t .node g .device) (devfn / 8) (s .number))) ∙ n)
 
@@ -224,8 +230,8 @@ module _ (t : Tree) (im : Images) (x : Access) where
     unfolding unclaimed
     direct-sees bus driver =
         by-direct t im x bus driver (λ r. Seeing bus driver true (r .answer) (r .after)) (λ s. (refl, s, refl))
-        (λ s q. (refl, none-selected t bus (x .devfn) few q, s))
-        (λ s q. (target-selected t bus (x .devfn) q, refl))
+        (λ s q. (refl, none-selected t im bus (x .devfn) few q, s))
+        (λ s q. (found-selected t im bus (x .devfn) q, refl))
 
     look-sees : (bus driver : ℕ) (type0 : Bool) → (type0 ≡ false → length (claimantsOn t im x bus driver) ≤ 1)
         → Seeing bus driver type0 (look t im x bus driver type0 .answer) (look t im x bus driver type0 .after)

@@ -7,8 +7,8 @@ use lib.Dec.{eqb}
 use lib.ListN.{length, getD}
 use Rattle.rack.specs.declared.Rack.{Rack}
 use Rattle.rack.specs.definitions.Buffer.{overStart}
-use Rattle.rack.specs.definitions.Node.{regionIn}
-use Rattle.rack.specs.definitions.Tree.{Tree, depth, greatestDepth}
+use Rattle.rack.specs.definitions.Node.{isBridge, regionIn}
+use Rattle.rack.specs.definitions.Tree.{Tree, host, depth, greatestDepth}
 use Rattle.rack.specs.definitions.Grow.{tree}
 use Rattle.rack.specs.definitions.Refusal.{rackRefusal, FirstFaultyNode}
 use Rattle.seat.specs.definitions.Grants as seating
@@ -17,15 +17,21 @@ use Rattle.seat_laws.specs.definitions.Kept.{Kept}
 use Rattle.seat_laws.specs.definitions.Running.{cursorAfter}
 use Rattle.seat_laws.specs.definitions.Before.{runBefore, linesBefore}
 use Rattle.register_header.specs.definitions.Register.{readRegister}
-use Rattle.register_image.specs.definitions.Image.{Images, Result, view, writeNode, gives}
-use Rattle.register_image.specs.definitions.Fixed.{imageRefusal, lengthsWrong}
+use Rattle.register_image.specs.definitions.Image.{Images, Result, view, gives}
+use Rattle.register_image.specs.definitions.Fixed.{lengthsWrong}
+use Rattle.bus_reset.specs.definitions.Agreement.{imageRefusal}
+use Rattle.bus_reset.specs.definitions.Store.{storeNode}
 use Rattle.register_image.specs.definitions.Reset.{resetImages}
+use Rattle.bus_reset.specs.definitions.Held.{isHeld}
 use Rattle.claim_agent.specs.declared.Space.{Space}
+use Rattle.claim_agent.specs.declared.Space.the-variants as space
 use Rattle.claim_agent.specs.definitions.Space.{spaceNumber}
+use Rattle.claim_agent.specs.definitions.Claim.{claims}
 use Rattle.claim_agent.specs.definitions.WindowEnds.{windowEnds}
-use Rattle.claim_laws.specs.definitions.Same.{SameButStatus}
+use Rattle.claim_laws.specs.definitions.Same.{SameButStatus, SameButReset}
 use Rattle.check_search.specs.declared.Report.the-variants.{Pass, Fault}
 use Rattle.check_search.specs.definitions.Check.{check}
+use Rattle.held_laws.specs.definitions.Others.{otherCheck}
 use Rattle.file_record.specs.declared.Event.{Event}
 use Rattle.file_record.specs.definitions.Events.{eventIn, eventBytes}
 use Rattle.file_record.specs.definitions.Load.{readIn, fileIn, rackAlone}
@@ -38,6 +44,7 @@ use Rattle.save_laws.specs.definitions.Listed.{seatRecords, registerNodes, name
 use Rattle.event_run.specs.declared.Answer.{Answer}
 use Rattle.event_run.specs.declared.Answer.the-variants.{Checked}
 use Rattle.event_run.specs.definitions.Run.{eventRun}
+use Rattle.event_laws.specs.definitions.Stores.{Stores}
 use Rattle.print_file.specs.definitions.Output.{linesOf, blank, eventsAt, firstAt, outputOf}
 use Rattle.print_file.specs.definitions.Place.{endUpTo}
 use Rattle.call_table.specs.declared.Reply.the-variants as reply
@@ -59,6 +66,7 @@ use Rattle.demand_passed.specs.definitions.FirstFault.{FirstFault}
 use Rattle.demand_calls.specs.definitions.Events.{Fits, replyNumber, Goes, crossings, startBus, Act, AllWriteNone, afterAll, allBy, MayNotDrive, SpecialCycle, specialReply, DeniedWrite, deniedReply, WouldStore}
 use Rattle.demand_calls.specs.definitions.CCalls.{InOrder, CAct, AllCallsWriteNone, afterCalls, Carries}
 use Rattle.demand_calls.specs.definitions.CCalls as c
+use Rattle.demand_calls.specs.definitions.Resets.{Resets}
 
 -- 1. 'Refused, by the numbers in document 01, are an overlong or broken rack file, an impossible tree, a false register image and an
 -- event or call with a field out of range; a refusal leaves every image untouched. Every other input is accepted and gets its answer.'
@@ -115,7 +123,7 @@ module _ (rack : Rack) (im : Images) where
     pub refused : (refusalBy (tree rack) (grants rack) im (call.storeRefusal (tree rack) i register enables) 0 ≡ 0 → ⊥)
         → call.storedIn (tree rack) (grants rack) im i register enables put ≡ im
     pub answers : refusalBy (tree rack) (grants rack) im (call.storeRefusal (tree rack) i register enables) 0 ≡ 0
-        → call.storedIn (tree rack) (grants rack) im i register enables put ≡ writeNode (tree rack) im i register enables put
+        → call.storedIn (tree rack) (grants rack) im i register enables put ≡ storeNode (tree rack) im i register enables put
 
   -- 01: 'The view shows an empty part'
   pub record View (i : ℕ) : Type 0 where
@@ -257,6 +265,9 @@ pub record Demand1 : Type 0 where
 --                    set::set_node                  Image.setNode
 --                    reset::reset_images            Reset.resetImages
 --                    sizing::size_region            Sizing.sizeRegion
+--   bus_reset        held::is_held_bus, is_held     Held.heldBus, Held.isHeld
+--                    agreement::image_refusal       Agreement.imageRefusal
+--                    store::store_node              Store.storeNode
 --   claim_window     decode::windows_of             Window.windowsOf
 --                    region::area_of                Area.areaOf
 --   claim_agent      Agent::claims                  Claim.claimsOf
@@ -294,6 +305,10 @@ pub record Demand1 : Type 0 where
 
 -- 02, E1: 'in demand 3 it counts as ended at its one owner': `Goes` has a write that is denied among those that came to the node of that
 -- device number, function 0, and `Denied3` says which ones are. Who acts plays no part in the check, which has no seat.
+
+-- 02, E5: 'The check counts no held node as claimant or driver; for the other agents its pass still says at most one': `OneClaimant` and
+-- `FirstFault` count the claimants that are not held, for drivers that are not held; and under `Goes` a Type 0 on a held bus ends unclaimed
+-- or as a special cycle.
 
 -- 02, E11: 'A rack that mixes them is checked and routed under the same guarantee as before': a node of these racks is a device, a bridge
 -- or an older bridge.
@@ -401,13 +416,15 @@ pub record Demand3 : Type 0 where
       → getD (rackRun b seat event im .numbers) 1 0
       ≤ depth (rackAlone b .tree) (startBus (rackAlone b .tree) (eventIn event 0)) + greatestDepth (rackAlone b .tree)
 
--- 02, E1: 'After any list of events by one seat other than 0, a register outside its grants differs at most in status bits': over calls of
--- run_event, over the run of a file while the seat acts, and over calls of rack_run; whatever the images, and refused events among them
+-- 02, E1: 'After any list of events by one seat other than 0, a register outside its grants differs at most in status bits'; E5: 'A seat that
+-- may write a bridge's control register can now reset what is below it: there a register outside its grants has, status bits aside, its old
+-- value or its reset value, and elsewhere E1's sentence holds': over calls of run_event and of rack_run, whatever the images and refused
+-- events among them, and over the run of a file while the seat acts, from images that agree, as all in a run do (`Agrees`)
 pub record SeatsKeep : Type 0 where
   pub events : (rack : Rack) (seat : ℕ) → (seat ≡ 0 → ⊥) → (es : List Event) (im : Images)
       → Kept (tree rack) (acting (grants rack) seat) im (afterAll (tree rack) (grants rack) (allBy seat es) im)
   -- after m events of an accepted file the seat acts, and it goes on acting for n events
-  pub files : (b : List ℕ) → fileIn b .refusal ≡ 0 → (m n : ℕ) (im : Images) → lengthsWrong (fileIn b .tree) im ≡ false
+  pub files : (b : List ℕ) → fileIn b .refusal ≡ 0 → (m n : ℕ) (im : Images) → imageRefusal (fileIn b .tree) im ≡ 0
       → (cursorAfter m b (firstAt (fileIn b .offset)) .seat ≡ 0 → ⊥)
       → ((k : ℕ) → k < n
       → cursorAfter k b (cursorAfter m b (firstAt (fileIn b .offset))) .seat ≡ cursorAfter m b (firstAt (fileIn b .offset)) .seat)
@@ -415,6 +432,45 @@ pub record SeatsKeep : Type 0 where
       (endUpTo n (fileIn b .tree) (fileIn b .grants) b (cursorAfter m b (firstAt (fileIn b .offset))) im .before)
   pub c-calls : (b : List ℕ) (seat : ℕ) → (seat ≡ 0 → ⊥) → (events : List (List ℕ)) (im : Images)
       → Kept (rackAlone b .tree) (acting (rackAlone b .grants) seat) im (afterCalls b (c.allTold seat events) im)
+
+-- 02, E5: 'Every saved or lent image must agree': accepted images are accepted after every call that is not refused, a file that is opened
+-- gives such, and a run has them after each of its events
+pub record Agrees : Type 0 where
+  pub runs : (rack : Rack) (im : Images) (seat : ℕ) (e : Event) → runRefusal (tree rack) (acting (grants rack) seat) im e ≡ 0
+      → imageRefusal (tree rack) (runIn (tree rack) (acting (grants rack) seat) im e .after) ≡ 0
+  pub writes : (rack : Rack) (im : Images) (i register enables put : ℕ)
+      → refusalBy (tree rack) (grants rack) im (call.storeRefusal (tree rack) i register enables) 0 ≡ 0
+      → imageRefusal (tree rack) (call.storedIn (tree rack) (grants rack) im i register enables put) ≡ 0
+  pub c-runs : (b : List ℕ) (seat : ℕ) (event : List ℕ) (im : Images) → rackRun b seat event im .code ≡ 0
+      → imageRefusal (rackAlone b .tree) (rackRun b seat event im .after) ≡ 0
+  pub c-resets : (b : List ℕ) (im : Images) → rackReset b im .code ≡ 0 → imageRefusal (rackAlone b .tree) (rackReset b im .after) ≡ 0
+  pub c-opens : (b : List ℕ) (im : Images) → fileIn b .refusal ≡ 0 → lengthsWrong (fileIn b .tree) im ≡ false
+      → imageRefusal (fileIn b .tree) (rackOpen b im .after) ≡ 0
+  pub files : (b : List ℕ) → fileIn b .refusal ≡ 0 → (n : ℕ) (im : Images) → lengthsWrong (fileIn b .tree) im ≡ false
+      → imageRefusal (fileIn b .tree)
+      (endUpTo n (fileIn b .tree) (fileIn b .grants) b (firstAt (fileIn b .offset)) (startImages b im) .before) ≡ 0
+
+-- 02, E5, over the calls
+pub record BusResets : Type 0 where
+  -- 'Writing 1, directly too, puts every node below back to reset registers and holds it there; only this write changes bytes outside its
+  -- node's part. On a held node a direct write stores nothing'
+  pub writes : (rack : Rack) (im : Images) (i register enables put : ℕ)
+      → refusalBy (tree rack) (grants rack) im (call.storeRefusal (tree rack) i register enables) 0 ≡ 0
+      → Stores (tree rack) im i register enables put (call.storedIn (tree rack) (grants rack) im i register enables put)
+  -- the same of configuration writes; 'A held initiator's access is `silent`', 'configuration finds nobody on a held bus'
+  pub runs : (rack : Rack) (im : Images) (seat : ℕ) (e : Event) → runRefusal (tree rack) (acting (grants rack) seat) im e ≡ 0
+      → Resets (tree rack) im e (runIn (tree rack) (acting (grants rack) seat) im e)
+  pub c-runs : (b : List ℕ) (seat : ℕ) (event : List ℕ) (im : Images) → rackRun b seat event im .code ≡ 0
+      → Resets (rackAlone b .tree) im (eventIn event 0) (runIn (rackAlone b .tree) (acting (rackAlone b .grants) seat) im (eventIn event 0))
+      × (rackRun b seat event im ≡ repliedCall (runIn (rackAlone b .tree) (acting (rackAlone b .grants) seat) im (eventIn event 0)))
+  -- 'A held node claims nothing': no address and no bus number 1 to 255
+  pub claims-nothing : (t : Tree) (im : Images) → imageRefusal t im ≡ 0 → (g : ℕ) → g < t .count → (g ≡ host → ⊥) → isHeld t im g ≡ true
+      → (s : Space) (bus a : ℕ) → (s ≡ space.Configuration → 1 ≤ a) → claims t im s bus g a ≡ false
+  -- 'The check counts no held node as claimant or driver'
+  pub checks : (t : Tree) (im : Images) → rackRefusal t ≡ 0 → imageRefusal t im ≡ 0 → check t im ≡ otherCheck t im
+  -- 'The bridge itself keeps claiming': bit 6 plays no part in what it claims, on either side
+  pub keeps-claiming : (t : Tree) (im im' : Images) (g : ℕ) → isBridge (t .node g .kind) ≡ true → SameButReset (view t im g) (view t im' g)
+      → (s : Space) (bus a : ℕ) → claims t im s bus g a ≡ claims t im' s bus g a
 
 -- 02, E1: 'the run starts as seat 0, which may write all': seat 0 runs every event as before there were seats, and the output of an accepted
 -- file whose rack has no seat record is what it was, from the registers that the file starts from (E2)

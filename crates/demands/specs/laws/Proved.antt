@@ -11,12 +11,18 @@ use Rattle.rack_laws.specs.laws.Refusals as refusals
 use Rattle.rack_laws.specs.laws.Stored.{accepted-stored}
 use Rattle.rack.specs.laws.Search.{none-all, found-at}
 use Rattle.seat.specs.definitions.Grants.{Grants, acting, namedMissing, grants}
-use Rattle.seat_laws.specs.laws.Files.{run-kept}
+use Rattle.seat_laws.specs.laws.Files.{run-kept, run-accepted}
 use Rattle.seat_laws.specs.laws.Before.{zero-before, output-before}
 use Rattle.register_image.specs.definitions.Image.{Images}
-use Rattle.register_image.specs.definitions.Fixed.{imageRefusal}
+use Rattle.bus_reset.specs.definitions.Agreement.{imageRefusal}
+use Rattle.register_laws.specs.laws.Accepted.{agreed}
+use Rattle.claim_laws.specs.laws.Held.{asked, held-claims}
+use Rattle.claim_laws.specs.laws.ResetBit.{reset-claims}
 use Rattle.check_search.specs.declared.Report.the-variants.{Pass}
-use Rattle.file_record.specs.definitions.Load.{Loading, rackAlone}
+use Rattle.held_laws.specs.laws.OtherCheck.{check-others}
+use Rattle.file_record.specs.definitions.Load.{Loading, fileIn, rackAlone}
+use Rattle.file_record.specs.definitions.Start.{startImages}
+use Rattle.print_file.specs.definitions.Output.{firstAt}
 use Rattle.file_record.specs.laws.Turns.{read-over, read-empty}
 use Rattle.file_laws.specs.laws.Refused as file
 use Rattle.file_laws.specs.laws.Seats as seats
@@ -25,6 +31,7 @@ use Rattle.save_laws.specs.definitions.Said.{Savable}
 use Rattle.save_laws.specs.definitions.Content.{Sound}
 use Rattle.save_laws.specs.laws.ReadBack.{file-alone}
 use Rattle.save_laws.specs.laws.Start.{start-saved}
+use Rattle.save_laws.specs.laws.Agreed.{start-accepted}
 use Rattle.save_laws.specs.laws.Decoded.{rack-savable}
 use Rattle.save_laws.specs.laws.Loaded.{alone-savable}
 use Rattle.save_laws.specs.laws.OneForm.{one-form}
@@ -43,6 +50,8 @@ use Rattle.demand_calls.specs.laws.Silent.{event-silent}
 use Rattle.demand_calls.specs.laws.Special.{event-special, event-arrives}
 use Rattle.demand_calls.specs.laws.Seats.{event-denied, event-stores, seat-keeps}
 use Rattle.demand_calls.specs.laws.CSeats.{c-run-denied, c-run-stores, c-seat-keeps}
+use Rattle.demand_calls.specs.laws.Resets.{event-agrees, write-agrees, c-run-agrees, c-reset-agrees, event-resets, write-resets, c-run-resets}
+use Rattle.demand_calls.specs.laws.CGoing.{handed}
 use Rattle.demand_calls.specs.laws.Checking as checking
 use Rattle.demand_calls.specs.laws.Saving as saving
 use Rattle.demand_calls.specs.laws.Decoded as decoded
@@ -53,7 +62,7 @@ use Rattle.demand_calls.specs.laws.CLater as c-later
 use Rattle.demand_calls.specs.laws.CSpecial as c-special
 use Rattle.demand_calls.specs.definitions.CCalls as c
 use Rattle.demands.specs.definitions.Demands as demands
-use Rattle.demands.specs.definitions.Demands.{Demand1, Demand3, SeatsKeep, AsBefore, Saves}
+use Rattle.demands.specs.definitions.Demands.{Demand1, Demand3, SeatsKeep, Agrees, BusResets, AsBefore, Saves}
 
 bytes : (whole : Bool) (b : List ℕ) → demands.Bytes whole b
 bytes whole b =
@@ -218,6 +227,29 @@ seats-keep =
       events = λ rack seat other es im. seat-keeps (tree rack) (accepted-stored rack) (grants rack) seat other es im;
       files = run-kept;
       c-calls = c-seat-keeps;
+    }
+
+pub agrees : Agrees
+agrees =
+    record {
+      runs = λ rack im seat. event-agrees (tree rack) (acting (grants rack) seat) (accepted-stored rack) im;
+      writes = λ rack im. write-agrees (tree rack) (grants rack) (accepted-stored rack) im;
+      c-runs = c-run-agrees;
+      c-resets = c-reset-agrees;
+      c-opens = λ b im ok right.
+          rw (saving.c-open-answers b im ok right) (start-accepted b ok im right);
+      files = λ b ok n im right. run-accepted b ok n (firstAt (fileIn b .offset)) (startImages b im) (start-accepted b ok im right);
+    }
+
+pub bus-resets : BusResets
+bus-resets =
+    record {
+      writes = λ rack im. write-resets (tree rack) (grants rack) (accepted-stored rack) im;
+      runs = λ rack im seat. event-resets (tree rack) (acting (grants rack) seat) (accepted-stored rack) im;
+      c-runs = λ b seat event im ok. (c-run-resets b seat event im ok, handed b seat event im ok);
+      claims-nothing = λ t im e g h ne held s bus a n. held-claims t im (agreed t im e) g h held ne s bus a (asked s a n);
+      checks = λ t im ok e. check-others t im ok (agreed t im e);
+      keeps-claiming = reset-claims;
     }
 
 pub as-before : AsBefore

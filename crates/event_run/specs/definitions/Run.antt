@@ -5,7 +5,8 @@ use lib.Dec.{eqb}
 use Rattle.rack.specs.definitions.Tree.{Tree}
 use Rattle.seat.specs.definitions.Grants.{Acting, mayWrite}
 use Rattle.register_header.specs.definitions.Register.{readRegister}
-use Rattle.register_image.specs.definitions.Image.{Images, Result, view, writeNode, gives}
+use Rattle.register_image.specs.definitions.Image.{Images, Result, view, gives}
+use Rattle.bus_reset.specs.definitions.Store.{storeNode}
 use Rattle.claim_agent.specs.declared.Space.{Space}
 use Rattle.claim_agent.specs.declared.Space.the-variants as space
 use Rattle.route_bus.specs.declared.Access.{Access}
@@ -38,7 +39,7 @@ answers crossings e im = gives (Ended crossings e) im
 -- the register that the access names, of node g, is read or written
 unfoldable pub registerOf : Tree → Images → Access → ℕ → ℕ → Result Answer
 registerOf t im x crossings g =
-    cond (x .write) (answers crossings Stored (writeNode t im g (x .register) (x .enables) (x .«data»)))
+    cond (x .write) (answers crossings Stored (storeNode t im g (x .register) (x .enables) (x .«data»)))
     (answers crossings (Data (readRegister (view t im g) (x .register))) im)
 
 -- 02, E1: 'A write that reaches a register outside the grant ends as `denied` with its crossings, and stores nothing'; `by` is who acts

@@ -146,7 +146,10 @@ record-1 whole b s =
               when-1 _ (isA class.Event (classIn b (s .offset))) (search when-1),
               (
                 when-1 _ (isA class.Registers (classIn b (s .offset))) (search when-1),
-                (when-1 _ (isA class.Registers (classIn b (s .offset))) (search when-1), tt),
+                (
+                  when-1 _ (isA class.Registers (classIn b (s .offset))) (search when-1),
+                  (when-1 _ (isA class.Registers (classIn b (s .offset))) (search when-1), tt),
+                ),
               ),
             ),
           ),

@@ -3,14 +3,17 @@ use Prim.Native.Nat.{ℕ, zero, suc, _+_}
 use mathlib.Core.Bool.{Bool, true, false, not, _&&_, _||_, cond}
 use mathlib.Core.List.{List, [], _∷_}
 use lib.Dec.{leb, ltb, eqb}
-use lib.ListN.{length}
+use lib.ListN.{length, getD}
 use Rattle.rack.specs.definitions.First.{_when_, _or_, first}
-use Rattle.rack.specs.definitions.Tree.{Tree}
+use Rattle.rack.specs.definitions.Tree.{Tree, parentOf}
 use Rattle.rack.specs.definitions.Grow.{noMemory, noTree, nodesWith, grown}
 use Rattle.rack.specs.definitions.Refusal.{nodeRefusal}
 use Rattle.rack.specs.declared.Node.{Node}
+use Rattle.register_header.specs.definitions.PciRegs.{BRIDGE-CONTROL, BRIDGE-CTL-BUS-RESET}
+use Rattle.register_header.specs.definitions.Register.{bitAt}
 use Rattle.register_image.specs.definitions.Reset.{isChanged}
 use Rattle.register_image.specs.definitions.Fixed.{partWrong}
+use Rattle.bus_reset.specs.definitions.Held.{above}
 use Rattle.seat.specs.definitions.Grants.{Grants, noGrants, seatWrong, seated}
 use Rattle.file_record.specs.declared.Class.{Class}
 use Rattle.file_record.specs.declared.Class.the-variants as class
@@ -86,12 +89,31 @@ unsound n part = not (isChanged n part) || partWrong n part
 abbrev pub valueFault : List ℕ → ℕ → Tree → ℕ
 valueFault b o t = 17 when unsound (t .node (byteIn b (o + 1))) (registersIn b o)
 
--- both of a register record
-abbrev pub registerFault : List ℕ → ℕ → Tree → ℕ → ℕ
-registerFault b o t least = placeFault b o t least or valueFault b o t
+-- the register record at an offset is bridge g's, and has bit 6 of bridge control set
+abbrev pub resetsAt : List ℕ → ℕ → ℕ → Bool
+resetsAt b o g = eqb (byteIn b (o + 1)) g && bitAt (getD (registersIn b o) BRIDGE-CONTROL 0) BRIDGE-CTL-BUS-RESET
 
--- 01, 'Refused, in this order', of a record; 02, E1: 'both after 13'; E2: 16 and 17 'after 15'. A faulty seat record stops a whole file;
--- in the rack bytes of a C call, where 14 comes after refusals that are found later, it is noted
+-- one of the register records from an offset on, as long as one ends by `end`, is such; at most `left` of them
+unfoldable pub recordResets : ℕ → List ℕ → ℕ → ℕ → ℕ → Bool
+recordResets zero b end o g = false
+recordResets (suc left) b end o g = cond (ltb end (o + 66)) false (resetsAt b o g || recordResets left b end (o + 66) g)
+
+-- a bridge above the node of the register record at an offset has bit 6 set in one of the register records before it, which stand from
+-- `start` on. There are none of such a bridge after it: nodes ascend, and a parent is an earlier node
+abbrev pub recordHeld : List ℕ → ℕ → Tree → ℕ → Bool
+recordHeld b o t start = above t (recordResets (length b) b o start) (parentOf t (byteIn b (o + 1)))
+
+-- 18, of a register record, whose registers by 17 are not those of reset; 02, E5: 'Every saved or lent image must agree: below a set bit 6
+-- all registers have reset values'. A node without a record is at reset. Where there is no register record yet, `registers` is 0
+abbrev pub agreementFault : List ℕ → ℕ → Tree → ℕ → ℕ
+agreementFault b o t registers = 18 when recordHeld b o t (registers or o)
+
+-- all three of a register record
+abbrev pub registerFault : List ℕ → ℕ → Tree → ℕ → ℕ → ℕ
+registerFault b o t registers least = placeFault b o t least or valueFault b o t or agreementFault b o t registers
+
+-- 01, 'Refused, in this order', of a record; 02, E1: 'both after 13'; E2: 16 and 17 'after 15'; E5: '18, after 17'. A faulty seat record
+-- stops a whole file; in the rack bytes of a C call, where 14 comes after refusals that are found later, it is noted
 abbrev pub recordFaults : Bool → List ℕ → Reading → List ℕ
 recordFaults whole b s =
     shapeFault whole b (classIn b (s .offset)) (s .offset) (s .registers) (s .events)
@@ -100,7 +122,8 @@ recordFaults whole b s =
     ∷ seatFault b (s .offset) (s .tree) (s .grants) when (whole && isA class.Seat (classIn b (s .offset)))
     ∷ unknownFault b (s .offset) (s .grants) when isA class.Event (classIn b (s .offset))
     ∷ placeFault b (s .offset) (s .tree) (s .least) when isA class.Registers (classIn b (s .offset))
-    ∷ valueFault b (s .offset) (s .tree) when isA class.Registers (classIn b (s .offset)) ∷ []
+    ∷ valueFault b (s .offset) (s .tree) when isA class.Registers (classIn b (s .offset))
+    ∷ agreementFault b (s .offset) (s .tree) (s .registers) when isA class.Registers (classIn b (s .offset)) ∷ []
 
 -- the first number that applies, 0 where none does
 unfoldable pub recordFault : Bool → List ℕ → Reading → ℕ

@@ -28,7 +28,7 @@ use Rattle.file_record.specs.laws.Turns.{read-over, read-empty, in-has}
 
 -- a record without a fault
 module _ (whole : Bool) (b : List ℕ) (s : Reading) where
-  pub none-applies : recordFault whole b s ≡ 0 → (k : ℕ) → k < 7 → at (recordFaults whole b s) k ≡ 0
+  pub none-applies : recordFault whole b s ≡ 0 → (k : ℕ) → k < 8 → at (recordFaults whole b s) k ≡ 0
   unfolding recordFault
   none-applies z = list-none-given (recordFaults whole b s) z
 
@@ -110,15 +110,15 @@ module _ (whole : Bool) (b : List ℕ) (s : Reading) (p : Within b s) (z : recor
       record { inside = taken-inside whole b s z; here = inr (taken-behind whole b s (p .here) z); events = events-within }
 
 -- records of each class begin within what has been read
-or-most : (n m : ℕ) {k : ℕ} → n ≤ k → m ≤ k → n or m ≤ k
+pub or-most : (n m : ℕ) {k : ℕ} → n ≤ k → m ≤ k → n or m ≤ k
 or-most n m h l = tested (eqb n 0) (λ q. rw q l) (λ q. rw q h)
 
-record Begun (b : List ℕ) (s : Reading) : Type 0 where
-  inside : s .offset ≤ length b
-  registers : s .registers ≤ s .offset
-  events : s .events ≤ s .offset
+pub record Begun (b : List ℕ) (s : Reading) : Type 0 where
+  pub inside : s .offset ≤ length b
+  pub registers : s .registers ≤ s .offset
+  pub events : s .events ≤ s .offset
 
-taken-begun : (whole : Bool) (b : List ℕ) (s : Reading) → Begun b s → recordFault whole b s ≡ 0 → Begun b (taken b s)
+pub taken-begun : (whole : Bool) (b : List ℕ) (s : Reading) → Begun b s → recordFault whole b s ≡ 0 → Begun b (taken b s)
 unfolding taken
 taken-begun whole b s p z =
     record {

@@ -17,7 +17,7 @@ use Rattle.file_record.specs.declared.Walk.{Walk}
 use Rattle.file_record.specs.definitions.Load.{Reading, atStart, recordFault, taken, Loading, refused, readFrom, readIn}
 use Rattle.file_record.specs.definitions.Loads.{readingOf, Steps, Loads}
 use Rattle.file_record.specs.laws.Turns.{read-past, read-stop, read-step, taken-later, read-over, read-empty, read-all}
-use Rattle.file_record.specs.laws.LoadLaws.{taken-accepted, taken-inside}
+use Rattle.file_record.specs.laws.LoadLaws.{taken-accepted, Begun, taken-begun}
 
 -- a refusal
 pub loads-refused : {r : Loaded} {d : Loading} {n o : ℕ} → d ≡ refused n o → (n ≡ 0 → ⊥) → (r .refusal ≡ n) × (r .offset ≡ o) → Loads r d
@@ -29,7 +29,7 @@ module _ (whole : Bool) (b : List ℕ) where
   pub record Left (s : Reading) : Type 0 where
     pub left : ℕ
     pub enough : length b ≤ s .offset + left
-    pub inside : s .offset ≤ length b
+    pub begun : Begun b s
     pub same : readFrom (length b) whole b atStart ≡ readFrom left whole b s
     pub accepted : rackRefusal (s .tree) ≡ 0
 
@@ -37,7 +37,13 @@ module _ (whole : Bool) (b : List ℕ) where
       → (w .offset ≡ 0) × (w .registers ≡ 0) × (w .events ≡ 0) × (w .least ≡ 0) → Left (readingOf w table grants)
   left-start w table grants t g e =
       rw (e .0, e .1, e .2, e .3, t, g)
-      (record { left = length b; enough = omega arith; inside = omega arith; same = refl; accepted = none-accepted noMemory })
+      (record {
+        left = length b;
+        enough = omega arith;
+        begun = record { inside = omega arith; registers = omega arith; events = omega arith };
+        same = refl;
+        accepted = none-accepted noMemory;
+      })
 
   module _ {s : Reading} (l : Left s) where
     -- at a fault
@@ -60,7 +66,7 @@ module _ (whole : Bool) (b : List ℕ) where
             record {
               left = left;
               enough = omega (arith, taken-later whole b s);
-              inside = taken-inside whole b s z;
+              begun = taken-begun whole b s (l .begun) z;
               same = q ∙ read-step whole b left s h z;
               accepted = taken-accepted whole b s (l .accepted) z;
             }

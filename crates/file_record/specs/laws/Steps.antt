@@ -29,7 +29,7 @@ use Rattle.file_record.specs.definitions.Number.{byteIn}
 use Rattle.file_record.specs.definitions.Record.{sizeOf, classIn, classNumber, isA, isKnown, cutShort, hostIn, nodeIn, seatIn, registersIn}
 use Rattle.file_record.specs.laws.RecordLaws.{registers-size}
 use Rattle.file_record.specs.definitions.Events.{eventIn, eventWrong, eventUnknown}
-use Rattle.file_record.specs.definitions.Load.{Reading, hostWrong, shapeFaults, shapeFault, nodeFault, fieldFault, seatFault, unknownFault, eventFault, misplaced, placeFault, unsound, valueFault, registerFault, recordFault, taken}
+use Rattle.file_record.specs.definitions.Load.{Reading, hostWrong, shapeFaults, shapeFault, nodeFault, fieldFault, seatFault, unknownFault, eventFault, misplaced, placeFault, unsound, valueFault, recordHeld, agreementFault, registerFault, recordFault, taken}
 use Rattle.file_record.specs.definitions.Loads.{readingOf, Steps}
 
 -- a number is that of one class alone
@@ -139,15 +139,14 @@ module _ (b : List ℕ) (w : Walk) (table grants : List ℕ) {o : ℕ} (past : o
         reading = λ q. rw (is-a class.Event (classIn b (w .offset)) c, past, k);
       }
 
-  pub registers-past : {i k : ℕ} {n : Node} {part : List ℕ} {x y : Bool} → isA class.Registers (classIn b (w .offset)) ≡ true
-      → i ≡ byteIn b (w .offset + 1) → x ≡ misplaced b (w .offset) (treeOf table) (w .least) → x ≡ false → n ≡ treeOf table .node i
-      → part ≡ registersIn b (w .offset) → y ≡ unsound n part → y ≡ false → k ≡ w .registers or w .offset
+  pub registers-past : {i k f : ℕ} → isA class.Registers (classIn b (w .offset)) ≡ true → i ≡ byteIn b (w .offset + 1)
+      → f ≡ registerFault b (w .offset) (treeOf table) (w .registers) (w .least) → f ≡ 0 → k ≡ w .registers or w .offset
       → Steps (record { refusal = 0; offset = o; registers = k; events = w .events; least = i + 1 }) table grants
-      (registerFault b (w .offset) (treeOf table) (w .least)) (taken b (readingOf w table grants))
+      (registerFault b (w .offset) (treeOf table) (w .registers) (w .least)) (taken b (readingOf w table grants))
   unfolding taken
-  registers-past c e x z m p y u k =
+  registers-past c e f z k =
       record {
-        refusal = rw (← x, z, ← e, ← m, ← p, ← y, u);
+        refusal = sym z ∙ f;
         reading = λ q. rw (is-a class.Registers (classIn b (w .offset)) c, past, k, e);
       }
 
@@ -170,15 +169,21 @@ module _ (b : List ℕ) (o : ℕ) (t : Tree) (g : Grants) {r : Walk} {table gran
   pub unknown-stops : {y : Bool} → x ≡ false → y ≡ eventUnknown g e → y ≡ true → r .refusal ≡ 15 → Steps r table grants (eventFault b o t g) next
   unknown-stops z u v n = step-stops n (rw (← at, ← w, z, ← u, v)) (λ q. omega (arith, q))
 
--- 16 of a register record, and 17 where there is no 16
-module _ (b : List ℕ) (o least : ℕ) (t : Tree) {r : Walk} {table grants : List ℕ} {x : Bool} {next : Reading}
-    (w : x ≡ misplaced b o t least) where
-  pub place-stops : x ≡ true → r .refusal ≡ 16 → Steps r table grants (registerFault b o t least) next
-  place-stops z n = step-stops n (rw (← w, z)) (λ q. omega (arith, q))
+-- 16 of a register record, 17 where there is no 16, and 18 where there is neither
+module _ (b : List ℕ) (o registers least : ℕ) (t : Tree) {x : Bool} (place : x ≡ misplaced b o t least) where
+  pub place-found : x ≡ true → 16 ≡ registerFault b o t registers least
+  place-found p = rw (← place, p)
 
-  pub value-stops : {i : ℕ} {n : Node} {part : List ℕ} {y : Bool} → i ≡ byteIn b (o + 1) → x ≡ false → n ≡ t .node i
-      → part ≡ registersIn b o → y ≡ unsound n part → y ≡ true → r .refusal ≡ 17 → Steps r table grants (registerFault b o t least) next
-  value-stops e z m p u v n = step-stops n (rw (← w, z, ← e, ← m, ← p, ← u, v)) (λ q. omega (arith, q))
+  module _ {y : Bool} (p : x ≡ false) (value : y ≡ unsound (t .node (byteIn b (o + 1))) (registersIn b o)) where
+    pub value-found : y ≡ true → 17 ≡ registerFault b o t registers least
+    value-found v = rw (← place, p, ← value, v)
+
+    module _ {k : ℕ} {z : Bool} (v : y ≡ false) (start : k ≡ registers or o) (held : z ≡ recordHeld b o t k) where
+      pub held-found : z ≡ true → 18 ≡ registerFault b o t registers least
+      held-found h = rw (← start, ← held, h, ← place, p, ← value, v)
+
+      pub none-found : z ≡ false → 0 ≡ registerFault b o t registers least
+      none-found h = rw (← start, ← held, h, ← place, p, ← value, v)
 
 -- a record's fault, by its class
 module _ (whole : Bool) (b : List ℕ) (s : Reading) {f : ℕ} {c : Class}
@@ -203,11 +208,12 @@ module _ (whole : Bool) (b : List ℕ) (s : Reading) {f : ℕ} {c : Class}
         (ap (λ n. fieldFault b (s .offset) (s .tree) or n) (or-last (unknownFault b (s .offset) (s .grants))))
 
     fault-registers : classIn b (s .offset) ≡ class.Registers
-        → recordFault whole b s ≡ registerFault b (s .offset) (s .tree) (s .least)
+        → recordFault whole b s ≡ registerFault b (s .offset) (s .tree) (s .registers) (s .least)
     unfolding recordFault first
     fault-registers k =
         rw (eq-eqb _ 0 (sym shape-is ∙ none), k, and-false whole)
-        (ap (λ n. placeFault b (s .offset) (s .tree) (s .least) or n) (or-last (valueFault b (s .offset) (s .tree))))
+        (ap (λ n. placeFault b (s .offset) (s .tree) (s .least) or valueFault b (s .offset) (s .tree) or n)
+        (or-last (agreementFault b (s .offset) (s .tree) (s .registers))))
 
     fault-seat : classIn b (s .offset) ≡ class.Seat → recordFault whole b s ≡ seatFault b (s .offset) (s .tree) (s .grants) when whole
     unfolding recordFault first
@@ -230,7 +236,7 @@ module _ (whole : Bool) (b : List ℕ) (s : Reading) {f : ℕ} {c : Class}
           → Steps r table grants (recordFault whole b s) next
       event-goes e h p = rw (fault-event (is-a class.Event (classIn b (s .offset)) (rw is at (sym e ∙ h)))) p
 
-      pub registers-goes : x ≡ isA class.Registers c → x ≡ true → Steps r table grants (registerFault b (s .offset) (s .tree) (s .least)) next
+      pub registers-goes : x ≡ isA class.Registers c → x ≡ true → Steps r table grants (registerFault b (s .offset) (s .tree) (s .registers) (s .least)) next
           → Steps r table grants (recordFault whole b s) next
       registers-goes e h p = rw (fault-registers (is-a class.Registers (classIn b (s .offset)) (rw is at (sym e ∙ h)))) p
 

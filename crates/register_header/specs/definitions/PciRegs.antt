@@ -92,3 +92,7 @@ BRIDGE-CTL-VGA16 = 0x10
 -- turns an unclaimed access into a target abort
 abbrev pub BRIDGE-CTL-MASTER-ABORT : ℕ
 BRIDGE-CTL-MASTER-ABORT = 0x20
+
+-- holds every node below in reset
+abbrev pub BRIDGE-CTL-BUS-RESET : ℕ
+BRIDGE-CTL-BUS-RESET = 0x40

@@ -5,7 +5,7 @@ use mathlib.Core.List.{List, [], _∷_}
 use Rattle.rack.specs.declared.Kind.{Kind}
 use Rattle.rack.specs.declared.Kind.the-variants.{Bridge, OlderBridge, Device}
 
--- a bridge's writable bits
+-- a bridge's writable bits. 02, E5: 'bit 6 of bridge control .. becomes writable'
 abbrev pub bridgeWrite : List ℕ
 bridgeWrite =
     0x00 ∷ 0x00 ∷ 0x00 ∷ 0x00  -- 00h VENDOR_ID, DEVICE_ID
@@ -23,7 +23,7 @@ bridgeWrite =
     ∷ 0xff ∷ 0xff ∷ 0xff ∷ 0xff  -- 30h IO_BASE_UPPER16, IO_LIMIT_UPPER16
     ∷ 0x00 ∷ 0x00 ∷ 0x00 ∷ 0x00  -- 34h CAPABILITY_LIST
     ∷ 0x00 ∷ 0x00 ∷ 0x00 ∷ 0x00  -- 38h ROM_ADDRESS1
-    ∷ 0xff ∷ 0x00 ∷ 0x3f ∷ 0x00 ∷ []  -- 3Ch INTERRUPT_LINE, INTERRUPT_PIN, BRIDGE_CONTROL
+    ∷ 0xff ∷ 0x00 ∷ 0x7f ∷ 0x00 ∷ []  -- 3Ch INTERRUPT_LINE, INTERRUPT_PIN, BRIDGE_CONTROL
 
 -- a bridge's bits cleared by writing 1, of either kind: both statuses, F900h
 abbrev pub bridgeClear : List ℕ
@@ -83,7 +83,7 @@ olderBridgeWrite =
     ∷ 0x00 ∷ 0x00 ∷ 0x00 ∷ 0x00  -- 30h IO_BASE_UPPER16, IO_LIMIT_UPPER16
     ∷ 0x00 ∷ 0x00 ∷ 0x00 ∷ 0x00  -- 34h CAPABILITY_LIST
     ∷ 0x00 ∷ 0x00 ∷ 0x00 ∷ 0x00  -- 38h ROM_ADDRESS1
-    ∷ 0xff ∷ 0x00 ∷ 0x2f ∷ 0x00 ∷ []  -- 3Ch INTERRUPT_LINE, INTERRUPT_PIN, BRIDGE_CONTROL
+    ∷ 0xff ∷ 0x00 ∷ 0x6f ∷ 0x00 ∷ []  -- 3Ch INTERRUPT_LINE, INTERRUPT_PIN, BRIDGE_CONTROL
 
 -- an older bridge's reset values, its IDs aside. 02, E11: 'I/O base and limit reset to 00', 'prefetchable base and limit reset to 0000h'
 abbrev pub olderBridgeReset : List ℕ

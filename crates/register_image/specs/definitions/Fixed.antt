@@ -1,6 +1,6 @@
 -- Refusals 11 and 12 of two images.
 use Prim.Native.Nat.{ℕ, _*_}
-use mathlib.Core.Bool.{Bool, not, _&&_, cond}
+use mathlib.Core.Bool.{Bool, not, _&&_}
 use mathlib.Core.List.{List}
 use lib.Bits.{bitAnd}
 use lib.Dec.{eqb}
@@ -31,7 +31,3 @@ nodeWrong t im i = partWrong (t .node i) (view t im i)
 
 abbrev pub fixedWrong : Tree → Images → Bool
 fixedWrong t im = some (nodeWrong t im) (t .count)
-
--- the number of the refusal, 0 where there is none
-unfoldable pub imageRefusal : Tree → Images → ℕ
-imageRefusal t im = cond (lengthsWrong t im) 11 (cond (fixedWrong t im) 12 0)

@@ -1,6 +1,6 @@
 -- The images at reset.
 use Prim.Native.Nat.{ℕ, zero, suc, _+_}
-use mathlib.Core.Bool.{Bool, not}
+use mathlib.Core.Bool.{Bool, true, not, cond}
 use mathlib.Core.List.{List, [], _∷_}
 use lib.Dec.{eqb}
 use lib.ListN.{getD}
@@ -25,11 +25,15 @@ byteChanged n part at = not (eqb (getD part at 0) (resetByte n at))
 abbrev pub isChanged : Node → List ℕ → Bool
 isChanged n part = some (byteChanged n part) 64
 
--- the images with the `left` nodes from i on at reset
-unfoldable pub resetNodes : Tree → Images → ℕ → ℕ → Images
-resetNodes t im i zero = im
-resetNodes t im i (suc left) = resetNodes t (onNode t im i (λ part. resetPart (t .node i))) (i + 1) left
+-- the images with one node at reset
+abbrev pub resetNode : Tree → Images → ℕ → Images
+resetNode t im i = onNode t im i (λ part. resetPart (t .node i))
+
+-- the images with those of the `left` nodes from i on that pass a test at reset
+unfoldable pub resetNodes : Tree → (ℕ → Bool) → Images → ℕ → ℕ → Images
+resetNodes t test im i zero = im
+resetNodes t test im i (suc left) = resetNodes t test (cond (test i) (resetNode t im i) im) (i + 1) left
 
 -- every node at reset
 abbrev pub resetImages : Tree → Images → Images
-resetImages t im = resetNodes t im 0 (t .count)
+resetImages t im = resetNodes t (λ i. true) im 0 (t .count)

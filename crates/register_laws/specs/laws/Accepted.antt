@@ -16,34 +16,45 @@ use Rattle.register_header.specs.declared.StatusBit.{StatusBit}
 use Rattle.register_header.specs.definitions.Mask.{fixedMask, resetByte}
 use Rattle.register_header.specs.definitions.Register.{writeRegister, setStatus}
 use Rattle.register_image.specs.definitions.Image.{Images, view, onNode, writeNode, statusNode}
-use Rattle.register_image.specs.definitions.Fixed.{lengthsWrong, byteWrong, nodeWrong, fixedWrong, imageRefusal}
+use Rattle.register_image.specs.definitions.Fixed.{lengthsWrong, byteWrong, nodeWrong, fixedWrong}
+use Rattle.bus_reset.specs.definitions.Agreement.{disagrees, imageRefusal}
 use Rattle.rack.specs.laws.Bools.{tested}
 use Rattle.rack.specs.laws.Search.{none, none-all, found, found-at}
 use Rattle.register_laws.specs.laws.Images.{view-length, on-right, view-same, view-other}
 use Rattle.register_laws.specs.laws.Registers.{write-length, write-fixed, status-length}
 use Rattle.register_laws.specs.laws.Status.{status-fixed}
 
--- the number tells both tests
-number : Bool → Bool → ℕ
-number a b = cond a 11 (cond b 12 0)
+-- the number tells the three tests
+number : Bool → Bool → Bool → ℕ
+number a b c = cond a 11 (cond b 12 (cond c 18 0))
 
-number-11 : (a b : Bool) → number a b ≡ 11 → a ≡ true
+number-11 : (a b c : Bool) → number a b c ≡ 11 → a ≡ true
 unfolding number
-number-11 true b e = refl
-number-11 false true e = absurd (omega arith)
-number-11 false false e = absurd (omega arith)
+number-11 true b c e = refl
+number-11 false true c e = absurd (omega arith)
+number-11 false false true e = absurd (omega arith)
+number-11 false false false e = absurd (omega arith)
 
-number-12 : (a b : Bool) → number a b ≡ 12 → (a ≡ false) × (b ≡ true)
+number-12 : (a b c : Bool) → number a b c ≡ 12 → (a ≡ false) × (b ≡ true)
 unfolding number
-number-12 true b e = absurd (omega arith)
-number-12 false true e = (refl, refl)
-number-12 false false e = absurd (omega arith)
+number-12 true b c e = absurd (omega arith)
+number-12 false true c e = (refl, refl)
+number-12 false false true e = absurd (omega arith)
+number-12 false false false e = absurd (omega arith)
 
-number-0 : (a b : Bool) → number a b ≡ 0 → (a ≡ false) × (b ≡ false)
+number-18 : (a b c : Bool) → number a b c ≡ 18 → (a ≡ false) × (b ≡ false) × (c ≡ true)
 unfolding number
-number-0 true b e = absurd (omega arith)
-number-0 false true e = absurd (omega arith)
-number-0 false false e = (refl, refl)
+number-18 true b c e = absurd (omega arith)
+number-18 false true c e = absurd (omega arith)
+number-18 false false true e = (refl, refl, refl)
+number-18 false false false e = absurd (omega arith)
+
+number-0 : (a b c : Bool) → number a b c ≡ 0 → (a ≡ false) × (b ≡ false) × (c ≡ false)
+unfolding number
+number-0 true b c e = absurd (omega arith)
+number-0 false true c e = absurd (omega arith)
+number-0 false false true e = absurd (omega arith)
+number-0 false false false e = (refl, refl, refl)
 
 -- a byte is right where its fixed bits are the reset value's
 pub byte-right : (n : Node) (part : List ℕ) (at : ℕ) → byteWrong n part at ≡ false
@@ -86,7 +97,7 @@ module _ (t : Tree) (im : Images) where
   -- refusal 11: a length is wrong
   pub refused-11 : imageRefusal t im ≡ 11 → lengthsWrong t im ≡ true
   unfolding imageRefusal number
-  refused-11 e = number-11 (lengthsWrong t im) (fixedWrong t im) e
+  refused-11 e = number-11 (lengthsWrong t im) (fixedWrong t im) (disagrees t im) e
 
   -- and the converse
   pub refuses-11 : lengthsWrong t im ≡ true → imageRefusal t im ≡ 11
@@ -96,56 +107,80 @@ module _ (t : Tree) (im : Images) where
   -- refusal 12: the lengths are right and a fixed bit is wrong
   pub refused-12 : imageRefusal t im ≡ 12 → (lengthsWrong t im ≡ false) × (fixedWrong t im ≡ true)
   unfolding imageRefusal number
-  refused-12 e = number-12 (lengthsWrong t im) (fixedWrong t im) e
+  refused-12 e = number-12 (lengthsWrong t im) (fixedWrong t im) (disagrees t im) e
 
   -- and the converse
   pub refuses-12 : lengthsWrong t im ≡ false → fixedWrong t im ≡ true → imageRefusal t im ≡ 12
   unfolding imageRefusal
   refuses-12 a b = rw (a, b)
 
+  -- refusal 18: both are right and a held node differs from reset
+  pub refused-18 : imageRefusal t im ≡ 18 → (lengthsWrong t im ≡ false) × (fixedWrong t im ≡ false) × (disagrees t im ≡ true)
+  unfolding imageRefusal number
+  refused-18 e = number-18 (lengthsWrong t im) (fixedWrong t im) (disagrees t im) e
+
+  -- and the converse
+  pub refuses-18 : lengthsWrong t im ≡ false → fixedWrong t im ≡ false → disagrees t im ≡ true → imageRefusal t im ≡ 18
+  unfolding imageRefusal
+  refuses-18 a b c = rw (a, b, c)
+
   -- accepted images: the lengths are right and every byte of every node is
   pub accepted : imageRefusal t im ≡ 0
       → (lengthsWrong t im ≡ false)
       × ((i : ℕ) → i < t .count → (at : ℕ) → at < 64 → byteWrong (t .node i) (view t im i) at ≡ false)
   unfolding imageRefusal number
-  accepted e = let s = number-0 (lengthsWrong t im) (fixedWrong t im) e in (s .0, fixed-right (s .1))
+  accepted e = let s = number-0 (lengthsWrong t im) (fixedWrong t im) (disagrees t im) e in (s .0, fixed-right (s .1))
+
+  -- and no held node differs from reset
+  pub agreed : imageRefusal t im ≡ 0 → disagrees t im ≡ false
+  unfolding imageRefusal number
+  agreed e = number-0 (lengthsWrong t im) (fixedWrong t im) (disagrees t im) e .2
 
   -- and the converse
   pub accepts : lengthsWrong t im ≡ false
       → ((i : ℕ) → i < t .count → (at : ℕ) → at < 64 → byteWrong (t .node i) (view t im i) at ≡ false)
-      → imageRefusal t im ≡ 0
+      → disagrees t im ≡ false → imageRefusal t im ≡ 0
   unfolding imageRefusal
-  accepts a h = rw (a, right-fixed h)
+  accepts a h d = rw (a, right-fixed h, d)
 
--- a change of one node's part that keeps its length and its fixed bits keeps images accepted
-pub on-accepted : (t : Tree) (im : Images) (i : ℕ) (f : List ℕ → List ℕ) → Stored t → imageRefusal t im ≡ 0
+-- images whose lengths and fixed bits are right
+pub record Sound (t : Tree) (im : Images) : Type 0 where
+  pub lengths : lengthsWrong t im ≡ false
+  pub bytes : (i : ℕ) → i < t .count → (at : ℕ) → at < 64 → byteWrong (t .node i) (view t im i) at ≡ false
+
+pub accepted-sound : (t : Tree) (im : Images) → imageRefusal t im ≡ 0 → Sound t im
+accepted-sound t im e = record { lengths = accepted t im e .0; bytes = accepted t im e .1 }
+
+-- a change of one node's part that keeps its length and its fixed bits keeps them so
+pub on-sound : (t : Tree) (im : Images) (i : ℕ) (f : List ℕ → List ℕ) → Stored t → Sound t im
     → length (f (view t im i)) ≡ length (view t im i)
     → ((at : ℕ) → bitAnd (getD (f (view t im i)) at 0) (fixedMask (t .node i) at)
     ≡ bitAnd (getD (view t im i) at 0) (fixedMask (t .node i) at))
-    → imageRefusal t (onNode t im i f) ≡ 0
-on-accepted t im i f pl e long same =
-    let a = accepted t im e in
-    let hf : i < t .count → length (f (view t im i)) ≡ 64 = λ h. long ∙ view-length t im pl (a .0) i h in
-    accepts t (onNode t im i f) (on-right t im i f hf (a .0))
-    (λ j hj at ha.
-    tested (eqb j i)
-    (λ q.
-    let ji : j ≡ i = eqb-true j i q in
-    let hi : i < t .count = omega arith in
-    rw (ji, view-same t im i f hf pl (a .0) hi)
-    (right-byte (t .node i) (f (view t im i)) at (same at ∙ byte-right (t .node i) (view t im i) at (a .1 i hi at ha))))
-    (λ q. rw (view-other t im i f hf pl (a .0) j (eqb-false j i q)) (a .1 j hj at ha)))
+    → Sound t (onNode t im i f)
+on-sound t im i f pl s long same =
+    let hf : i < t .count → length (f (view t im i)) ≡ 64 = λ h. long ∙ view-length t im pl (s .lengths) i h in
+    record {
+      lengths = on-right t im i f hf (s .lengths);
+      bytes = λ j hj at ha.
+          tested (eqb j i)
+          (λ q.
+          let ji : j ≡ i = eqb-true j i q in
+          let hi : i < t .count = omega arith in
+          rw (ji, view-same t im i f hf pl (s .lengths) hi)
+          (right-byte (t .node i) (f (view t im i)) at (same at ∙ byte-right (t .node i) (view t im i) at (s .bytes i hi at ha))))
+          (λ q. rw (view-other t im i f hf pl (s .lengths) j (eqb-false j i q)) (s .bytes j hj at ha));
+    }
 
--- a register write keeps images accepted, also one of a missing node
-pub write-accepted : (t : Tree) (im : Images) (i register enables put : ℕ) → Stored t → imageRefusal t im ≡ 0
-    → imageRefusal t (writeNode t im i register enables put) ≡ 0
-write-accepted t im i register enables put pl e =
-    on-accepted t im i (λ part. writeRegister (t .node i) part register enables put) pl e
+-- so does a register write, also one of a missing node
+pub write-sound : (t : Tree) (im : Images) (i register enables put : ℕ) → Stored t → Sound t im
+    → Sound t (writeNode t im i register enables put)
+write-sound t im i register enables put pl s =
+    on-sound t im i (λ part. writeRegister (t .node i) part register enables put) pl s
     (write-length (t .node i) (view t im i) register enables put) (write-fixed (t .node i) (view t im i) register enables put)
 
--- a status bit keeps images accepted, also one of a missing node
-pub status-accepted : (t : Tree) (im : Images) (i : ℕ) (side : Side) (bit : StatusBit) → Stored t → imageRefusal t im ≡ 0
-    → imageRefusal t (statusNode t im i side bit) ≡ 0
-status-accepted t im i side bit pl e =
-    on-accepted t im i (λ part. setStatus (t .node i) part side bit) pl e
+-- and a status bit
+pub status-sound : (t : Tree) (im : Images) (i : ℕ) (side : Side) (bit : StatusBit) → Stored t → Sound t im
+    → Sound t (statusNode t im i side bit)
+status-sound t im i side bit pl s =
+    on-sound t im i (λ part. setStatus (t .node i) part side bit) pl s
     (status-length (t .node i) (view t im i) side bit) (status-fixed (t .node i) (view t im i) side bit)

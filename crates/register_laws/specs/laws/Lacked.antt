@@ -18,7 +18,8 @@ use Rattle.register_header.specs.definitions.Mask.{writeMask, clearMask, resetB
 use Rattle.register_header.specs.laws.Disjoint.{write-lt, clear-lt}
 use Rattle.register_header.specs.laws.Lacked.{lacked-unused, lacked-lt, lacked-none}
 use Rattle.register_image.specs.definitions.Image.{Images, view}
-use Rattle.register_image.specs.definitions.Fixed.{byteWrong, imageRefusal}
+use Rattle.register_image.specs.definitions.Fixed.{byteWrong}
+use Rattle.bus_reset.specs.definitions.Agreement.{imageRefusal}
 use Rattle.register_laws.specs.laws.Accepted.{byte-right, accepted}
 use Rattle.register_laws.specs.laws.Kept.{unused-zero}
 

@@ -28,7 +28,8 @@ use Rattle.register_header.specs.definitions.Register.{dwordOf, readRegister, w
 use Rattle.register_header.specs.definitions.Sizing.{readBack, regionRegister, sizePart}
 use Rattle.register_header.specs.laws.SizingLaws.{kind-none}
 use Rattle.register_image.specs.definitions.Image.{Images, view}
-use Rattle.register_image.specs.definitions.Fixed.{byteWrong, imageRefusal}
+use Rattle.register_image.specs.definitions.Fixed.{byteWrong}
+use Rattle.bus_reset.specs.definitions.Agreement.{imageRefusal}
 use Rattle.register_image.specs.definitions.Sizing.{sizeRegion}
 use Rattle.register_laws.specs.laws.Images.{view-length}
 use Rattle.register_laws.specs.laws.Registers.{byteAfter, dword-at, write-is}

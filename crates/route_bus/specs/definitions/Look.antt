@@ -8,6 +8,7 @@ use Rattle.register_header.specs.declared.Side.{Side}
 use Rattle.register_header.specs.declared.Side.the-variants.{Primary, Secondary}
 use Rattle.register_header.specs.declared.StatusBit.the-variants.{ReceivedMasterAbort}
 use Rattle.register_image.specs.definitions.Image.{Images, Result, view, statusNode, gives}
+use Rattle.bus_reset.specs.definitions.Held.{heldBus}
 use Rattle.claim_agent.specs.declared.Space.{Space}
 use Rattle.claim_agent.specs.declared.Space.the-variants.{Memory, Io, Configuration}
 use Rattle.claim_agent.specs.declared.Claimants.{Claimants}
@@ -60,18 +61,22 @@ target t bus devfn =
     (nextFrom (λ i. eqb (parentOf t i) bus && eqb (t .node i .device) (devfn / 8)) 0 (t .count))
     255
 
+-- 02, E5: 'configuration finds nobody on a held bus'
+unfoldable pub found : Tree → Images → ℕ → ℕ → ℕ
+found t im bus devfn = cond (heldBus t im bus) 255 (target t bus devfn)
+
 -- 01: 'which owns it; otherwise .. it is unclaimed'. Its register is read or written where the event is run
 unfoldable pub selects : Tree → Images → Access → ℕ → ℕ → Result Sight
 selects t im x bus driver =
-    cond (eqb (target t bus (x .devfn)) 255) (unclaimed t im bus driver)
-    (gives (Ends (Node (target t bus (x .devfn)))) im)
+    cond (eqb (found t im bus (x .devfn)) 255) (unclaimed t im bus driver)
+    (gives (Ends (Node (found t im bus (x .devfn)))) im)
 
 -- 02, E4: 'A configuration write to device 31, function 7, register 0 is one'
 abbrev pub isSpecialCycle : Access → Bool
 isSpecialCycle x = x .write && (eqb (x .devfn) (31 * 8 + 7) && eqb (x .register) 0)
 
 -- 02, E4: 'on the root bus for bus 0 and otherwise on the secondary bus where the access would turn into Type 0. It ends as `special` ..
--- and sets no master-abort bit'
+-- and sets no master-abort bit'. E5: on a held bus 'a special cycle still ends as one'
 unfoldable pub direct : Tree → Images → Access → ℕ → ℕ → Result Sight
 direct t im x bus driver = cond (isSpecialCycle x) (gives (Ends (Special bus)) im) (selects t im x bus driver)
 

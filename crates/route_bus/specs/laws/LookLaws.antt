@@ -11,7 +11,7 @@ use Rattle.route_bus.specs.declared.Access.{Access}
 use Rattle.route_bus.specs.declared.End.the-variants.{Node, Special}
 use Rattle.route_bus.specs.declared.Sight.{Sight}
 use Rattle.route_bus.specs.declared.Sight.the-variants.{Ends}
-use Rattle.route_bus.specs.definitions.Look.{unclaimed, target, selects, isSpecialCycle, direct, look}
+use Rattle.route_bus.specs.definitions.Look.{unclaimed, found, selects, isSpecialCycle, direct, look}
 
 module _ (t : Tree) (im : Images) (x : Access) (bus driver : ℕ) where
   pub special-ends : isSpecialCycle x ≡ true → direct t im x bus driver ≡ gives (Ends (Special bus)) im
@@ -28,12 +28,12 @@ module _ (t : Tree) (im : Images) (x : Access) (bus driver : ℕ) where
   other-selects s = rw s
 
   pub by-direct : (P : Result Sight → Type 0) → (isSpecialCycle x ≡ true → P (gives (Ends (Special bus)) im))
-      → (isSpecialCycle x ≡ false → target t bus (x .devfn) ≡ 255 → P (unclaimed t im bus driver))
-      → (isSpecialCycle x ≡ false → (target t bus (x .devfn) ≡ 255 → ⊥) → P (gives (Ends (Node (target t bus (x .devfn)))) im))
+      → (isSpecialCycle x ≡ false → found t im bus (x .devfn) ≡ 255 → P (unclaimed t im bus driver))
+      → (isSpecialCycle x ≡ false → (found t im bus (x .devfn) ≡ 255 → ⊥) → P (gives (Ends (Node (found t im bus (x .devfn)))) im))
       → P (direct t im x bus driver)
   unfolding selects
   by-direct P special none node =
       tested (isSpecialCycle x) (λ s. rw (special-ends s) (special s))
       (λ s.
-      tested (eqb (target t bus (x .devfn)) 255) (λ q. rw (other-selects s, q) (none s (eqb-true _ 255 q)))
+      tested (eqb (found t im bus (x .devfn)) 255) (λ q. rw (other-selects s, q) (none s (eqb-true _ 255 q)))
       (λ q. rw (other-selects s, q) (node s (eqb-false _ 255 q))))

@@ -61,7 +61,8 @@ module _ (t : Tree) (im : Images) (x : Access) where
       → look t im x bus driver type0 ≡ gives (Ends (Special bus)) im
   look-type0 bus driver type0 e s = rw e (look-special t im x bus driver s)
 
-  look-crosses : (bus driver g : ℕ) (type0 : Bool) → type0 ≡ false → claimantsOn t im x bus driver ≡ g ∷ [] → Taken t bus driver g
+  -- the one claimant takes an access on
+  pub look-crosses : (bus driver g : ℕ) (type0 : Bool) → type0 ≡ false → claimantsOn t im x bus driver ≡ g ∷ [] → Taken t bus driver g
       → look t im x bus driver type0 ≡ gives (Crosses g) im
   unfolding look claimed owned
   look-crosses bus driver g type0 e one k = rw (e, one, ne-eqb g host (k .node), k .bridge)

@@ -18,7 +18,7 @@ use Rattle.route_bus.specs.declared.Sight.{Sight}
 use Rattle.route_bus.specs.declared.Sight.the-variants.{Ends, Crosses}
 use Rattle.route_bus.specs.definitions.End.{ends}
 use Rattle.route_bus.specs.laws.EndLaws.{by-end}
-use Rattle.route_bus.specs.definitions.Look.{unclaimed, isSpecialCycle, target, look}
+use Rattle.route_bus.specs.definitions.Look.{unclaimed, isSpecialCycle, found, look}
 use Rattle.route_bus.specs.laws.LookLaws.{by-direct}
 use Rattle.route_bus.specs.definitions.Cross.{otherBus, turnsType0, passed, passedEnd, crossed}
 use Rattle.route.specs.definitions.Route.{follow, busStep, bridgeStep, possible, configure}
@@ -145,8 +145,8 @@ module _ (is : End → Bool) (fails : Failing is) (t : Tree) (im : Images) (x : 
 module _ (t : Tree) (im : Images) (x : Access) where
   -- a configuration access that reaches a node came to a Type 0 and found the node of that device number, function 0; no image changed
   pub only-node : endsAtNode (configure t im x .answer .end) ≡ true
-      → (gs : List ℕ) × (holder : ℕ) × ToType0 t im x gs holder × (target t holder (x .devfn) ≡ 255 → ⊥)
-      × (configure t im x ≡ arrived im gs (Node (target t holder (x .devfn))))
+      → (gs : List ℕ) × (holder : ℕ) × ToType0 t im x gs holder × (found t im holder (x .devfn) ≡ 255 → ⊥)
+      × (configure t im x ≡ arrived im gs (Node (found t im holder (x .devfn))))
   unfolding look unclaimed
   only-node i =
       let c = came endsAtNode node-fails t im x refl i in
@@ -154,8 +154,8 @@ module _ (t : Tree) (im : Images) (x : Access) where
       (c .bridges, c .holder, (c .by, c .path), s .0, c .result ∙ ap (arrived im (c .bridges)) (c .seen ∙ s .1))
     where
       seen-node : (bus driver : ℕ) → endsAtNode (endSeen (look t im x bus driver true .answer)) ≡ true
-          → (target t bus (x .devfn) ≡ 255 → ⊥) × (endSeen (look t im x bus driver true .answer) ≡ Node (target t bus (x .devfn)))
+          → (found t im bus (x .devfn) ≡ 255 → ⊥) × (endSeen (look t im x bus driver true .answer) ≡ Node (found t im bus (x .devfn)))
       seen-node bus driver =
           by-direct t im x bus driver
-          (λ r. endsAtNode (endSeen (r .answer)) ≡ true → (target t bus (x .devfn) ≡ 255 → ⊥) × (endSeen (r .answer) ≡ Node (target t bus (x .devfn))))
+          (λ r. endsAtNode (endSeen (r .answer)) ≡ true → (found t im bus (x .devfn) ≡ 255 → ⊥) × (endSeen (r .answer) ≡ Node (found t im bus (x .devfn))))
           (λ s i. absurd (false≢true i)) (λ s q i. absurd (false≢true i)) (λ s q i. (q, refl))

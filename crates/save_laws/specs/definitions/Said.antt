@@ -10,7 +10,7 @@ use Rattle.rack.specs.definitions.Refusal.{rackRefusal}
 use Rattle.rack_laws.specs.laws.OnePass.{StoredBy}
 use Rattle.seat.specs.definitions.Grants.{Grants, noGrant}
 use Rattle.register_image.specs.definitions.Image.{Images}
-use Rattle.register_image.specs.definitions.Fixed.{imageRefusal}
+use Rattle.bus_reset.specs.definitions.Agreement.{imageRefusal}
 
 -- host memory is 1 to 0 where there is none, each node is as its record says it, nothing stands after the last, and the rest is what one
 -- pass over the nodes finds

@@ -18,7 +18,7 @@ use Rattle.rack_laws.specs.laws.Sound.{nodes-le}
 use Rattle.seat.specs.definitions.Grants.{Grants, noGrant, ownGrant, grants}
 use Rattle.seat.specs.laws.Stored.{grants-same}
 use Rattle.register_image.specs.definitions.Image.{Images}
-use Rattle.register_image.specs.definitions.Fixed.{imageRefusal}
+use Rattle.bus_reset.specs.definitions.Agreement.{imageRefusal}
 use Rattle.file_save.specs.definitions.Saved.{savedFile}
 use Rattle.save_laws.specs.definitions.Content.{memoryIn, nodeOf, grantOf, SameMemory, SameNode, SameGrant, SameContent, Sound}
 use Rattle.save_laws.specs.laws.Trees.{stored-same, with-node, with-host}

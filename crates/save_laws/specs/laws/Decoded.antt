@@ -16,7 +16,7 @@ use Rattle.rack_laws.specs.laws.Sound.{nodes-le}
 use Rattle.seat.specs.definitions.Grants.{noGrant, isPair, slot, ownGrant, namedMissing, grants}
 use Rattle.seat.specs.laws.Stored.{pair-is, pair-below}
 use Rattle.register_image.specs.definitions.Image.{Images}
-use Rattle.register_image.specs.definitions.Fixed.{imageRefusal}
+use Rattle.bus_reset.specs.definitions.Agreement.{imageRefusal}
 use Rattle.save_laws.specs.definitions.Said.{SaidTree, SaidGrants, Savable}
 use Rattle.save_laws.specs.definitions.Content.{memoryIn, nodeOf, grantOf, Sound}
 use Rattle.save_laws.specs.laws.Trees.{with-said}

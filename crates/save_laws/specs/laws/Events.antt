@@ -38,10 +38,10 @@ after-event class.Registers registers events n f k = absurd (true≢false (rw (n
 after-event class.Event registers events n f k = refl
 
 module _ (b : List ℕ) (x : Reading) (z : recordFault true b x ≡ 0) where
-  shape : shapeFault true b (classIn b (x .offset)) (x .offset) (x .registers) (x .events) ≡ 0
+  pub shape : shapeFault true b (classIn b (x .offset)) (x .offset) (x .registers) (x .events) ≡ 0
   shape = none-applies true b x z 0 (lit< tt)
 
-  in-place : followsLater (classIn b (x .offset)) (x .registers) (x .events) ≡ false
+  pub in-place : followsLater (classIn b (x .offset)) (x .registers) (x .events) ≡ false
   unfolding shapeFault
   in-place =
       when-not 5 _ (λ e. omega (arith, e))

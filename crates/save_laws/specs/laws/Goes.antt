@@ -38,22 +38,31 @@ module _ (b : List ℕ) where
       step (suc left) n =
           record { more = left; enough = omega (arith, taken-later true b s); same = read-step true b left s h z }
 
-  -- past what stands for each of the numbers from a up to n; S o i is the reading in front of the records of i, at an offset o that
-  -- is not below `low`
+  -- past what stands for each of the numbers from a up to n; S o i is the reading in front of the records of i, at an offset o, and Q is
+  -- kept from number to number
+  module _ (f : ℕ → List ℕ) (S : ℕ → ℕ → Reading) (Q : ℕ → Type 0) (a n : ℕ)
+      (step : (o i : ℕ) (y : List ℕ) → Q o → a ≤ i → i < n → Here b o (f i ++ y)
+      → Goes (S o i) (S (o + length (f i)) (i + 1)) × Q (o + length (f i))) where
+    pub goes-kept : (o i left : ℕ) (y : List ℕ) → Q o → a ≤ i → i + left ≡ n → Here b o (each f i left ++ y)
+        → Goes (S o i) (S (o + length (each f i left)) n)
+    unfolding each
+    goes-kept o i zero y q l e h =
+        let i' : i ≡ n = omega arith in
+        let o' : o ≡ o + 0 = omega arith in
+        goes-same (ap (S o) i' ∙ ap (λ (x : ℕ). S x n) o')
+    goes-kept o i (suc left) y q l e h =
+        let rest = each f (i + 1) left in
+        let h' : Here b o (f i ++ (rest ++ y)) = subst (Here b o) (append-assoc (f i) rest y) h in
+        let o' : o + length (f i) + length rest ≡ o + length (f i ++ rest) = omega (arith, length-append (f i) rest) in
+        let s = step o i (rest ++ y) q l (omega arith) h' in
+        goes-on (s .0)
+        (subst (λ (x : ℕ). Goes (S (o + length (f i)) (i + 1)) (S x n)) o'
+        (goes-kept (o + length (f i)) (i + 1) left y (s .1) (omega arith) (omega arith) (here-past b o (f i) (rest ++ y) h')))
+
+  -- the same with offsets that are not below `low`
   module _ (f : ℕ → List ℕ) (S : ℕ → ℕ → Reading) (low a n : ℕ)
       (step : (o i : ℕ) (y : List ℕ) → low ≤ o → a ≤ i → i < n → Here b o (f i ++ y)
       → Goes (S o i) (S (o + length (f i)) (i + 1))) where
     pub goes-each : (o i left : ℕ) (y : List ℕ) → low ≤ o → a ≤ i → i + left ≡ n → Here b o (each f i left ++ y)
         → Goes (S o i) (S (o + length (each f i left)) n)
-    unfolding each
-    goes-each o i zero y m l e h =
-        let i' : i ≡ n = omega arith in
-        let o' : o ≡ o + 0 = omega arith in
-        goes-same (ap (S o) i' ∙ ap (λ (x : ℕ). S x n) o')
-    goes-each o i (suc left) y m l e h =
-        let rest = each f (i + 1) left in
-        let h' : Here b o (f i ++ (rest ++ y)) = subst (Here b o) (append-assoc (f i) rest y) h in
-        let o' : o + length (f i) + length rest ≡ o + length (f i ++ rest) = omega (arith, length-append (f i) rest) in
-        goes-on (step o i (rest ++ y) m l (omega arith) h')
-        (subst (λ (x : ℕ). Goes (S (o + length (f i)) (i + 1)) (S x n)) o'
-        (goes-each (o + length (f i)) (i + 1) left y (omega arith) (omega arith) (omega arith) (here-past b o (f i) (rest ++ y) h')))
+    goes-each = goes-kept f S (λ o. low ≤ o) a n (λ o i y q l m h. (step o i y q l m h, omega arith))

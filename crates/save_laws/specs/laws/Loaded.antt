@@ -12,7 +12,7 @@ use Rattle.seat.specs.declared.SeatRecord.{SeatRecord}
 use Rattle.seat.specs.definitions.Grants.{Grants, noGrant, noGrants, seatWrong, seated}
 use Rattle.seat.specs.laws.Writing.{sound-pair}
 use Rattle.register_image.specs.definitions.Image.{Images}
-use Rattle.register_image.specs.definitions.Fixed.{imageRefusal}
+use Rattle.bus_reset.specs.definitions.Agreement.{imageRefusal}
 use Rattle.file_record.specs.declared.Class.the-variants as class
 use Rattle.file_record.specs.definitions.Record.{classIn, isA, hostIn, nodeIn, seatIn}
 use Rattle.file_record.specs.definitions.Load.{Reading, atStart, recordFault, taken, Loading, readIn, fileIn, rackAlone}

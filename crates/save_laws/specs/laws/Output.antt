@@ -8,7 +8,7 @@ use native.Mathlib.Omega.{arith}
 use lib.Dec.{leb}
 use lib.ListN.{length, drop, length-drop, length-replicate}
 use lib.Seq.{drop-drop, drop-append-seam}
-use borrow.Author.Tests.{le-leb, lt-leb, leb-true, leb-false, lt-ltb, eq-eqb}
+use borrow.Author.Tests.{le-leb, lt-leb, leb-true, leb-false, eq-eqb}
 use Rattle.rack.specs.definitions.Tree.{Tree, bridgeCount, deviceCount}
 use Rattle.rack.specs.laws.Bools.{tested}
 use Rattle.seat.specs.definitions.Grants.{Grants, acting}
@@ -21,7 +21,7 @@ use Rattle.file_record.specs.definitions.Number.{byteIn}
 use Rattle.file_record.specs.definitions.Record.{sizeOf, classIn, isA}
 use Rattle.file_record.specs.definitions.Events.{eventIn}
 use Rattle.file_record.specs.definitions.Load.{taken, fileIn}
-use Rattle.file_record.specs.definitions.Start.{setFrom, startImages}
+use Rattle.file_record.specs.definitions.Start.{startImages}
 use Rattle.file_laws.specs.definitions.Records.{before}
 use Rattle.file_laws.specs.laws.Seats.{ended}
 use Rattle.file_save.specs.definitions.Saved.{savedFile}
@@ -30,6 +30,7 @@ use Rattle.save_laws.specs.definitions.Said.{Savable}
 use Rattle.save_laws.specs.definitions.After.{Follows}
 use Rattle.save_laws.specs.definitions.Listed.{NoRegisters}
 use Rattle.save_laws.specs.laws.Here.{Here, here-kind, here-byte, here-dword, here-qword}
+use Rattle.save_laws.specs.laws.Earlier.{set-none}
 use Rattle.save_laws.specs.laws.Events.{file-back}
 use Rattle.save_laws.specs.laws.Start.{start-from}
 
@@ -119,13 +120,8 @@ module _ (b : List ℕ) where
 
 -- and the run starts from reset
 module _ (b : List ℕ) (none : fileIn b .registers ≡ fileIn b .offset) where
-  set-none : (turns end : ℕ) (t : Tree) (im : Images) → setFrom turns b t end end im ≡ im
-  unfolding setFrom
-  set-none zero end t im = refl
-  set-none (suc turns) end t im = rw (lt-ltb end (end + 66) (omega arith))
-
   pub start-reset : (im : Images) → startImages b im ≡ resetImages (fileIn b .tree) im
-  start-reset im = rw none (set-none (length b) (fileIn b .offset) (fileIn b .tree) (resetImages (fileIn b .tree) im))
+  start-reset im = rw none (set-none b (length b) (fileIn b .offset) (fileIn b .tree) (resetImages (fileIn b .tree) im))
 
   pub output-reset : fileIn b .refusal ≡ 0
       → outputOf b

@@ -25,7 +25,7 @@ use Rattle.register_image.specs.definitions.Fixed.{partWrong}
 use Rattle.file_record.specs.declared.Class.the-variants as class
 use Rattle.file_record.specs.definitions.Number.{byteIn, wordIn, qwordIn}
 use Rattle.file_record.specs.definitions.Record.{formOf, sizeOf, classIn, cutShort, hostIn, regionFrom, nodeIn, seatIn, registersIn}
-use Rattle.file_record.specs.definitions.Load.{Reading, atStart, shapeFault, nodeFault, misplaced, unsound, recordFault, taken}
+use Rattle.file_record.specs.definitions.Load.{Reading, atStart, shapeFault, nodeFault, misplaced, unsound, recordHeld, recordFault, taken}
 use Rattle.file_save.specs.definitions.Saved.{wordBytes, qwordBytes, hostBytes, nodeBytes}
 use Rattle.file_save.specs.laws.Length.{node-length}
 use Rattle.save_laws.specs.laws.Here.{Here, here-length, here-byte, here-kind, here-word, here-qword, here-registers, word-read, qword-read}
@@ -75,9 +75,10 @@ module _ (b : List ℕ) (o : ℕ) (t : Tree) (g : Grants) where
   -- and a register record may stand after others
   module _ (registers least : ℕ) where
     registers-right : 0 < o → classIn b o ≡ class.Registers → o + sizeOf (byteIn b o) ≤ length b → misplaced b o t least ≡ false
-        → unsound (t .node (byteIn b (o + 1))) (registersIn b o) ≡ false → recordFault true b (before o registers least t g) ≡ 0
+        → unsound (t .node (byteIn b (o + 1))) (registersIn b o) ≡ false → recordHeld b o t (registers or o) ≡ false
+        → recordFault true b (before o registers least t g) ≡ 0
     unfolding recordFault shapeFault first
-    registers-right p k l z u = rw (k, ends l, ne-eqb o 0 (λ e. omega arith), z, u)
+    registers-right p k l z u h = rw (h, k, ends l, ne-eqb o 0 (λ e. omega arith), z, u)
 
     registers-taken : classIn b o ≡ class.Registers
         → taken b (before o registers least t g)
@@ -175,9 +176,10 @@ module _ (b : List ℕ) (o : ℕ) (t : Tree) (g : Grants) (y : List ℕ) (after 
   -- past a register record
   pub registers-goes : (registers least i : ℕ) (part : List ℕ) → length part ≡ 64 → Here b o ((11 ∷ i ∷ part) ++ y)
       → least ≤ i → i < t .count → isChanged (t .node i) part ≡ true → partWrong (t .node i) part ≡ false
+      → recordHeld b o t (registers or o) ≡ false
       → Goes b (before o registers least t g) (before (o + length (11 ∷ i ∷ part)) (registers or o) (i + 1) t g)
   unfolding formOf
-  registers-goes registers least i part long p a l changed right =
+  registers-goes registers least i part long p a l changed right free =
       let r = (11 ∷ i ∷ part) ++ y in
       let k : byteIn b o ≡ 11 = here-kind b o r p in
       let c : classIn b o ≡ class.Registers = ap (λ (x : ℕ). formOf x .class) k in
@@ -186,5 +188,5 @@ module _ (b : List ℕ) (o : ℕ) (t : Tree) (g : Grants) (y : List ℕ) (after 
       let e : registersIn b o ≡ part = here-registers b o r p ∙ take-at part y 64 long in
       goes-past b (omega (arith, within b o (11 ∷ i ∷ part) y p))
       (registers-right b o t g registers least after c (omega (arith, within b o (11 ∷ i ∷ part) y p))
-      (rw (n, lt-leb (t .count) i l, le-ltb i least a)) (rw (n, e, changed, right)))
+      (rw (n, lt-leb (t .count) i l, le-ltb i least a)) (rw (n, e, changed, right)) free)
       (registers-taken b o t g registers least c ∙ rw (s, n))

@@ -6,23 +6,19 @@ use mathlib.Core.List.{List, [], _∷_, _++_, append-assoc, append-nil}
 use Prim.Native.Nat.{ℕ, zero, suc, _+_, _≤_, _<_}
 use native.Mathlib.Omega.{arith}
 use lib.Dec.{eqb}
-use lib.ListN.{length, getD, length-append}
-use lib.Seq.{ext-getD, take-at}
-use borrow.Author.Tests.{lt-ltb, le-ltb, eqb-true, eqb-false, not-false}
-use Rattle.rack.specs.declared.Node.{Node}
+use lib.ListN.{length, length-append}
+use lib.Seq.{take-at}
+use borrow.Author.Tests.{lt-ltb, le-ltb, eqb-true, eqb-false}
 use Rattle.rack.specs.definitions.Tree.{Tree}
 use Rattle.rack.specs.definitions.Stored.{Stored}
 use Rattle.rack.specs.laws.Bools.{tested}
-use Rattle.rack.specs.laws.Search.{none}
 use Rattle.rack_laws.specs.laws.OnePass.{StoredBy}
 use Rattle.seat.specs.definitions.Grants.{Grants}
-use Rattle.register_header.specs.definitions.Mask.{resetByte}
 use Rattle.register_image.specs.definitions.Image.{Images, view, setNode}
 use Rattle.register_image.specs.definitions.Fixed.{lengthsWrong}
-use Rattle.register_image.specs.definitions.Reset.{resetPart, byteChanged, isChanged, resetImages}
+use Rattle.register_image.specs.definitions.Reset.{resetPart, resetImages}
 use Rattle.register_laws.specs.laws.Images.{view-length, on-right, view-same, view-other}
-use Rattle.register_laws.specs.laws.Registers.{reset-length, reset-at}
-use Rattle.register_laws.specs.laws.Resets.{reset-right, reset-view}
+use Rattle.register_laws.specs.laws.Resets.{unchanged, reset-right, reset-view}
 use Rattle.register_laws.specs.laws.Accepted.{accepted}
 use Rattle.file_record.specs.definitions.Number.{byteIn}
 use Rattle.file_record.specs.definitions.Record.{registersIn}
@@ -35,15 +31,6 @@ use Rattle.save_laws.specs.laws.Here.{Here, here-byte, here-registers, h
 use Rattle.save_laws.specs.laws.ReadBack.{file-alone, savable-stored, end-is, registers-here}
 use Rattle.save_laws.specs.laws.Events.{file-back}
 use Rattle.save_laws.specs.laws.Views.{images-same}
-
--- registers that are not changed are those of reset
-pub unchanged : (n : Node) (part : List ℕ) → length part ≡ 64 → isChanged n part ≡ false → part ≡ resetPart n
-unfolding byteChanged
-unchanged n part long q =
-    ext-getD 0 part (resetPart n) (long ∙ sym (reset-length n))
-    (λ at h.
-    let l : at < 64 = omega arith in
-    eqb-true (getD part at 0) (resetByte n at) (not-false _ (none (byteChanged n part) 64 q at l)) ∙ sym (reset-at n at l))
 
 module _ (t : Tree) (im : Images) (by : StoredBy t) (stored : Stored t) (right : lengthsWrong t im ≡ false) where
   -- images in which the nodes below i have the registers of im, and all others are at reset

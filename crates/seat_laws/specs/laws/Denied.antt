@@ -11,12 +11,13 @@ use Rattle.rack.specs.definitions.Tree.{Tree}
 use Rattle.rack.specs.laws.Bools.{tested}
 use Rattle.seat.specs.definitions.Grants.{Grants, Acting, acting, isGranted, mayWrite}
 use Rattle.seat.specs.laws.Writing.{zero-may, may-not, may-granted}
-use Rattle.register_image.specs.definitions.Image.{Images, Result, writeNode}
+use Rattle.register_image.specs.definitions.Image.{Images, Result}
+use Rattle.bus_reset.specs.definitions.Store.{storeNode}
 use Rattle.route_bus.specs.declared.Access.{Access}
 use Rattle.route_bus.specs.declared.End.{End}
 use Rattle.route_bus.specs.declared.End.the-variants as end
 use Rattle.route_bus.specs.declared.Route.{Route}
-use Rattle.route_bus.specs.definitions.Look.{target}
+use Rattle.route_bus.specs.definitions.Look.{found}
 use Rattle.route.specs.definitions.Route.{configure}
 use Rattle.route_laws.specs.definitions.Ends.{endNumber, endsAtNode}
 use Rattle.route_laws.specs.definitions.Path.{ToType0}
@@ -56,13 +57,13 @@ module _ (t : Tree) (im : Images) (x : Access) where
   reaches : endsAtNode (configure t im x .answer .end) ≡ true → Reached
   reaches i =
       let s = only-node t im x i in
-      (s .0, s .1, target t (s .1) (x .devfn), record { path = s .2; node = refl; some = s .3; route = s .4 })
+      (s .0, s .1, found t im (s .1) (x .devfn), record { path = s .2; node = refl; some = s .3; route = s .4 })
 
   module _ {gs : List ℕ} {holder g : ℕ} (a : Arrives t im x gs holder g) (by : Acting) where
     -- the write that reached a node is stored or denied
     module _ (write : x .write ≡ true) where
       pub is-stored : mayWrite by g (x .register) ≡ true
-          → configured t by im x ≡ answers (length gs) Stored (writeNode t im g (x .register) (x .enables) (x .«data»))
+          → configured t by im x ≡ answers (length gs) Stored (storeNode t im g (x .register) (x .enables) (x .«data»))
       unfolding endedAt reached registerOf
       is-stored m = ap (ended t by x) (a .route) ∙ rw (write, m)
 
@@ -88,7 +89,7 @@ module _ (t : Tree) (im : Images) (x : Access) where
           }
         where
           stored-by-0 : (h : Grants)
-              → configured t (acting h 0) im x ≡ answers (length gs) Stored (writeNode t im g (x .register) (x .enables) (x .«data»))
+              → configured t (acting h 0) im x ≡ answers (length gs) Stored (storeNode t im g (x .register) (x .enables) (x .«data»))
           stored-by-0 h = ap (ended t (acting h 0) x) (a .route) ∙ rw (write, zero-may (acting h 0) g (x .register) refl)
 
     -- a denied access was a write outside the grant

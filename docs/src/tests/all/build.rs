@@ -8,6 +8,7 @@ use rackcheck::file::Contents;
 use rackcheck::machine::Machine;
 use rackcheck::program::Run;
 use rackcheck::rack::{Event, Header, Node, Options, Rack, Region};
+use rackcheck::registers::{masks, part_mut};
 
 /// A rack file under construction.
 #[derive(Clone, Debug, Default)]
@@ -235,9 +236,43 @@ pub fn event_length(event: &Event) -> usize {
 
 /// A node's registers at reset but for 0Ch, all of which every node can write.
 pub fn off_reset(node: &Node) -> [u8; 64] {
-    let mut part = rackcheck::registers::masks(node).reset;
+    let mut part = masks(node).reset;
     part[0x0C] = 0x55;
     part
+}
+
+/// The bridges above a node, from the one that holds its bus upwards, by means of the tests.
+pub fn bridges_above(rack: &Rack, node: u8) -> Vec<u8> {
+    match rack.nodes[usize::from(node)].parent {
+        255 => Vec::new(),
+        parent => [vec![parent], bridges_above(rack, parent)].concat(),
+    }
+}
+
+/// Of each node whether it is held, by means of the tests: a parent stands before its nodes.
+pub fn held_nodes(rack: &Rack, bridges: &[u8]) -> Vec<bool> {
+    let (mut held, mut resets) = (Vec::new(), Vec::new());
+    let mut parts = bridges.chunks(64);
+    for node in &rack.nodes {
+        let parent = usize::from(node.parent);
+        let here = node.parent != 255 && (held[parent] || resets[parent]);
+        held.push(here);
+        resets.push(node.is_bridge() && parts.next().unwrap()[0x3E] & 0x40 != 0);
+    }
+    held
+}
+
+/// Both images with every node below a set bit 6 at reset, from the root bus down.
+pub fn agreed(rack: &Rack, images: (Vec<u8>, Vec<u8>)) -> (Vec<u8>, Vec<u8>) {
+    let (mut bridges, mut devices) = images;
+    for (number, node) in rack.numbered() {
+        // Those before are settled, so that a bit 6 that is itself below one is gone.
+        if held_nodes(rack, &bridges)[usize::from(number)] {
+            let part = part_mut(rack, &mut bridges, &mut devices, number);
+            part.copy_from_slice(&masks(node).reset);
+        }
+    }
+    (bridges, devices)
 }
 
 /// Status and, for a bridge, secondary status of a node.

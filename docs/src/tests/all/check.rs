@@ -2,7 +2,7 @@
 
 use std::time::{Duration, Instant};
 
-use crate::build::{full_at_work, only, File, Random, EDITIONS, NO_REGIONS};
+use crate::build::{full_at_work, held_nodes, only, File, Random, EDITIONS, NO_REGIONS};
 use rackcheck::answer::{Fault, Kind};
 use rackcheck::check::{check, check_bus, fault_at, points};
 use rackcheck::claims::{bus_claims, claimants};
@@ -116,7 +116,7 @@ fn a_check_changes_no_register() {
 }
 
 /// 3 to 8 nodes, bridges of both kinds among them, with I/O ranges that often touch each
-/// other.
+/// other. Now and then a bridge resets what is below it.
 pub fn random_rack(random: &mut Random) -> File {
     let mut file = File::host(random.below(4) << 18, random.below(4) << 18 | 0xFFF);
     let (mut bridges, mut places, mut taken) = (vec![255u8], Vec::new(), Vec::new());
@@ -171,7 +171,7 @@ fn write_bus(
             let secondary = node + 1;
             file = file.put(number, *device, 0x18, u32::from(secondary) << 8 | 0x00FF_0000);
             file = write_bus(random, file, places, node, secondary);
-            let flags = random.below(8) as u32;
+            let flags = random.below(8) as u32 | if random.one_in(12) { 0x10 } else { 0 };
             file = file
                 .put(number, *device, 0x18, 0x0000_FF00)
                 .put(
@@ -199,9 +199,12 @@ fn write_bus(
 /// Beyond the first 64 KiB, so that what ends there is met.
 const TRIED: u32 = 0x1_1000;
 
-/// The first fault of a bus below [`TRIED`], by trying every address with every driver.
+/// The first fault of a bus below [`TRIED`], by trying every address with every driver that is
+/// not held.
 fn brute_force(machine: &Machine, bus: u8) -> Option<Fault> {
-    let agents = machine.rack().agents(bus);
+    let held = held_nodes(machine.rack(), machine.bridges());
+    let mut agents = machine.rack().agents(bus);
+    agents.retain(|agent| *agent == 255 || !held[usize::from(*agent)]);
     for value in 0..TRIED {
         for driver in &agents {
             if let [a, b, ..] = *claimants(machine, bus, *driver, Address::Io(value)).as_slice() {

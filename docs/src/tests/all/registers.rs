@@ -53,7 +53,7 @@ fn bridge_reset_and_masks_as_dwords() {
         (0x30, 0, 0xFFFF_FFFF, 0),
         (0x34, 0, 0, 0),
         (0x38, 0, 0, 0),
-        (0x3C, 0, 0x003F_00FF, 0),
+        (0x3C, 0, 0x007F_00FF, 0),
     ];
     rows_stand(&bridge(), rows);
 }
@@ -76,7 +76,7 @@ fn older_bridge_reset_and_masks_as_dwords() {
         (0x30, 0, 0, 0),
         (0x34, 0, 0, 0),
         (0x38, 0, 0, 0),
-        (0x3C, 0, 0x002F_00FF, 0),
+        (0x3C, 0, 0x006F_00FF, 0),
     ];
     rows_stand(&older(), rows);
 }
@@ -112,7 +112,7 @@ fn an_older_bridge_ignores_what_it_lacks() {
     assert!(older[..16].iter().all(|line| line == "stored 0"));
     let differ: Vec<_> = (16..32).filter(|at| newer[*at] != older[*at]).collect();
     assert_eq!(differ, [0x1C, 0x24, 0x28, 0x2C, 0x30, 0x3C].map(|register| 16 + register / 4));
-    let digits = ["0000F0F0", "FFF0FFF0", "00000000", "00000000", "00000000", "002F00FF"];
+    let digits = ["0000F0F0", "FFF0FFF0", "00000000", "00000000", "00000000", "006F00FF"];
     for (at, digits) in differ.into_iter().zip(digits) {
         assert_eq!(older[at], format!("data 0 {digits}"));
     }

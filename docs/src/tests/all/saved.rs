@@ -2,8 +2,8 @@
 //! bit, and runs that start from saved registers.
 
 use crate::build::{
-    bridge, device, event_length, full_at_work, hex, off_reset, older, output, File, Random,
-    EDITIONS, NO_REGIONS,
+    agreed, bridge, device, event_length, full_at_work, hex, off_reset, older, output, File,
+    Random, EDITIONS, NO_REGIONS,
 };
 use crate::check::random_rack;
 use crate::script::decoded;
@@ -56,7 +56,7 @@ fn random_node(random: &mut Random, parents: &[u8]) -> Node {
     }
 }
 
-/// A random rack of up to 12 nodes with random grants and registers.
+/// A random rack of up to 12 nodes with random grants and registers, which agree below a bit 6.
 pub fn random_content(random: &mut Random) -> Machine {
     let ends = [0, 1, 2, 0x8000_0000, u64::MAX, random.next()];
     let mut rack =
@@ -85,6 +85,7 @@ pub fn random_content(random: &mut Random) -> Machine {
         let image = if node.is_bridge() { &mut bridges } else { &mut devices };
         image.extend(random_part(random, node));
     }
+    let (bridges, devices) = agreed(&rack, (bridges, devices));
     Machine::with_images(rack, &bridges, &devices).expect("not refused")
 }
 

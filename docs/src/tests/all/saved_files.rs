@@ -152,7 +152,8 @@ fn r17_by_hand() {
         with(kind, 0x33, 0x80, other);
         with(kind, 0x3E, 0x2F, true);
         with(kind, 0x3E, 0x10, other);
-        with(kind, 0x3E, 0x40, false);
+        with(kind, 0x3E, 0x40, true);
+        with(kind, 0x3E, 0x80, false);
     }
     with(3, 0x10, 0xF1, true);
     with(3, 0x10, 0xF0, false);
@@ -307,7 +308,7 @@ fn a_saved_file_cut_short() {
 #[test]
 fn a_saved_file_out_of_order() {
     let mut random = Random(61);
-    let mut seen = [0; 18];
+    let mut seen = [0; 19];
     for _ in 0..60 {
         let file = saved::file(&random_content(&mut random));
         let offsets = offsets(&file);
@@ -367,7 +368,7 @@ fn a_saved_file_out_of_order() {
 #[test]
 fn every_bit_of_a_saved_file() {
     let mut random = Random(62);
-    let mut seen = [0; 18];
+    let mut seen = [0; 19];
     for turn in 0..24 {
         let machine = if turn == 0 {
             one_of_each_placed().seated(&[(3, 0, 0x42), (4, 1, 0)]).machine()
@@ -441,8 +442,8 @@ fn refusals_of_the_library() {
     assert_eq!(number(&[2, 1]), Some(16));
     assert_eq!(number(&[3, 4]), Some(16));
     let zero = Saved { node: 0, part: [0; 64] };
-    assert_eq!(refuse::registers(&rack, None, &zero), Some(17));
-    assert_eq!(refuse::registers(&rack, Some(0), &zero), Some(16));
+    assert_eq!(refuse::registers(&rack, &[], &zero), Some(17));
+    assert_eq!(refuse::registers(&rack, &[record(0)], &zero), Some(16));
     let bad: Vec<Node> = vec![crate::build::bridge(9, 0)];
     let bad = rackcheck::rack::Rack { nodes: bad, ..rack };
     assert_eq!(Machine::with_registers(bad, &[zero]).err(), Some(7));

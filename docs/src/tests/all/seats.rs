@@ -1,10 +1,11 @@
 //! Seats in the classroom (E1): what is denied, what is not, and who acts.
 
-use crate::build::{hex, one_of_each_below, output, status, File, Random, EDITIONS};
+use crate::build::{bridges_above, hex, one_of_each_below, output, status, File, Random, EDITIONS};
 use crate::check::random_rack;
 use crate::routes::{goes, mixes, open, rack, twice_carried, B11, B12, B13};
 use crate::special::random_images;
 use rackcheck::answer::Answer;
+use rackcheck::bytes::u32_at;
 use rackcheck::machine::Machine;
 use rackcheck::program::run_event;
 use rackcheck::rack::Event;
@@ -275,13 +276,6 @@ fn without_seats_as_before() {
     }
 }
 
-/// The bytes of a part in which an event by a seat with that mask may change a bit, and which.
-fn may_change(machine: &Machine, node: u8, mask: u16) -> Vec<u8> {
-    let bits = masks(machine.rack().node(node).unwrap());
-    let granted = |at: usize| mask >> (at / 4) & 1 == 1;
-    (0..64).map(|at| bits.clear[at] | if granted(at) { bits.write[at] } else { 0 }).collect()
-}
-
 /// A random event: mostly writes, to buses 0 to 4.
 fn random_event(random: &mut Random, devices: &[u8]) -> Event {
     let (bus, device) = (random.pick(&[0, 0, 1, 2, 3, 4]), random.pick(devices));
@@ -314,13 +308,22 @@ fn as_seat_0_or_denied(machine: &mut Machine, seat: u8, event: &Event) -> Answer
     answer
 }
 
+/// Whether a seat may reset a node: a bridge above it has the control register, dword 15, among
+/// the seat's grants.
+fn may_reset(machine: &Machine, seat: u8, node: u8) -> bool {
+    let grants = &machine.rack().grants;
+    let mut above = bridges_above(machine.rack(), node).into_iter();
+    above.any(|bridge| grants.mask(seat, bridge).unwrap_or(0) >> 15 == 1)
+}
+
 /// "After any list of events by one seat other than 0, a register outside its grants differs
-/// at most in status bits."
+/// at most in status bits." Below a bridge whose control register the seat may write it "has,
+/// status bits aside, its old value or its reset value".
 #[test]
 fn registers_outside_the_grants() {
     let mut random = Random(52);
-    // Endings by crossings, and bytes that differ.
-    let (mut stored, mut denied, mut differ) = ([0; 9], [0; 9], 0);
+    // Endings by crossings, registers that differ and those that went back to reset.
+    let (mut stored, mut denied, mut differ, mut reset) = ([0; 9], [0; 9], 0, 0);
     for _ in 0..3_000 {
         let file = random_rack(&mut random);
         let (mut rack, images) = (file.rack(), random_images(&mut random, &file));
@@ -340,16 +343,22 @@ fn registers_outside_the_grants() {
                 _ => {}
             }
         }
-        for (node, _) in before.rack().numbered() {
+        for (node, record) in before.rack().numbered() {
             let mask = before.rack().grants.mask(seat, node).unwrap();
-            for (at, may) in may_change(&before, node, mask).into_iter().enumerate() {
-                let changed = before.part(node)[at] ^ machine.part(node)[at];
-                assert_eq!(changed & !may, 0, "{node} {at:X}");
-                differ += u32::from(changed != 0);
+            let (bits, may_reset) = (masks(record), may_reset(&before, seat, node));
+            for at in (0..64).step_by(4) {
+                let (old, new) = (u32_at(before.part(node), at), u32_at(machine.part(node), at));
+                let granted = mask >> (at / 4) & 1 == 1;
+                let written = if granted { u32_at(&bits.write, at) } else { 0 };
+                let may = u32_at(&bits.clear, at) | written;
+                let same = |value: u32| (new ^ value) & !may == 0;
+                assert!(same(old) || may_reset && same(u32_at(&bits.reset, at)), "{node} {at:X}");
+                differ += u32::from(new != old);
+                reset += u32::from(!same(old));
             }
         }
     }
-    println!("stored: {stored:?}, denied: {denied:?}, bytes that differ: {differ}");
+    println!("stored: {stored:?}, denied: {denied:?}, differ: {differ}, reset: {reset}");
     let enough = stored[..3].iter().chain(&denied[..3]).all(|count| *count >= 10);
-    assert!(enough && differ >= 500, "{stored:?} {denied:?} {differ}");
+    assert!(enough && differ >= 500 && reset >= 20, "{stored:?} {denied:?} {differ} {reset}");
 }

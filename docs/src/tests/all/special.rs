@@ -1,6 +1,6 @@
 //! Special cycles (E4): where they end, what is none, and that no register changes.
 
-use crate::build::{one_of_each_below, status, File, Random, EDITIONS};
+use crate::build::{agreed, one_of_each_below, status, File, Random, EDITIONS};
 use crate::check::random_rack;
 use crate::routes::{goes, mixes, open, rack, twice_carried, B11, B12, B13};
 use rackcheck::answer::{Abort, Answer};
@@ -274,7 +274,8 @@ fn a_check_is_as_before() {
     assert_eq!(file.tail(3), ["clash 0 255 0 1", "special 1 0", fault]);
 }
 
-/// Both images with random bus numbers, master abort modes and status bits.
+/// Both images with random bus numbers, master abort modes and status bits, which agree below a
+/// bit 6.
 pub fn random_images(random: &mut Random, file: &File) -> (Vec<u8>, Vec<u8>) {
     let (mut b, mut d) = file.images();
     for part in b.chunks_mut(64) {
@@ -285,7 +286,7 @@ pub fn random_images(random: &mut Random, file: &File) -> (Vec<u8>, Vec<u8>) {
         part[0x1F] = random.byte() & random.pick(&[0, 0xF9]);
     }
     d.chunks_mut(64).for_each(|part| part[0x07] = random.byte() & random.pick(&[0, 0xF9]));
-    (b, d)
+    agreed(&file.rack(), (b, d))
 }
 
 /// Whether an access to that bus number that ended on the bus of `holder` has arrived: the

@@ -20,8 +20,8 @@ returns : tie.Need-returns
 unfolding storedIn
 returns c = (search (is-number, needs), search (is-refused, needs))
 
-write-node-requires : tie.Need-write-node-requires
-write-node-requires c κs = search needs
+store-node-requires : tie.Need-store-node-requires
+store-node-requires c κs = search needs
 
 same-length-3 : tie.Need-same-length-3
 same-length-3 c = search needs
@@ -42,7 +42,7 @@ write-on-spec =
     same-length
     same-length-2
     returns
-    write-node-requires
+    store-node-requires
     same-length-3
     same-length-4
     returns-2)

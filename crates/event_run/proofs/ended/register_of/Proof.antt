@@ -3,8 +3,8 @@ use borrow.Author.Needs.{needs}
 use Rattle.event_run.proofs.ended.register_of.Statement.{statement}
 use Rattle.event_run.proofs.ended.register_of.Tie as tie
 
-write-node-requires : tie.Need-write-node-requires
-write-node-requires c κs = search needs
+store-node-requires : tie.Need-store-node-requires
+store-node-requires c κs = search needs
 
 same-length : tie.Need-same-length
 same-length c = search needs
@@ -31,7 +31,7 @@ pub register-of-spec : {M : Type 1} → statement M
 register-of-spec =
     tie.close
     (tie.spec
-    write-node-requires
+    store-node-requires
     same-length
     same-length-2
     returns

@@ -1,5 +1,5 @@
 use borrow.Author.Needs.{needs}
-use Rattle.register_header.specs.definitions.Sizing.{readBack, writtenBack}
+use Rattle.register_header.proofs.Sized.{back-seen, back-written}
 use Rattle.register_header.proofs.sizing.read_back.Statement.{statement}
 use Rattle.register_header.proofs.sizing.read_back.Tie as tie
 
@@ -19,8 +19,7 @@ same-length : tie.Need-same-length
 same-length c = search needs
 
 returns : tie.Need-returns
-unfolding readBack writtenBack
-returns c = (cc, cc)
+returns c = (search (back-seen, needs), search (back-written, needs))
 
 pub read-back-spec : {M : Type 1} → statement M
 read-back-spec =

@@ -1,0 +1,4 @@
+-- What the functions' proofs use.
+mod Asked
+mod Below
+mod Written

@@ -1,0 +1,3 @@
+pub mod Held
+pub mod Agreement
+pub mod Store

@@ -1,0 +1,3 @@
+pub mod Stores
+pub mod Accepted
+pub mod Written
