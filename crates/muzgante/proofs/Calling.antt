@@ -8,7 +8,7 @@ use Rattle.rack.specs.definitions.Tree.{Tree}
 use Rattle.rack.specs.definitions.Table.{treeOf}
 use Rattle.rack.specs.definitions.First.{_when_, _or_, unless}
 use Rattle.rack.specs.laws.FirstLaws.{or-this, or-next, unless-number, unless-none}
-use Rattle.seat.specs.definitions.Grants.{Grants, acting}
+use Rattle.seat.specs.definitions.Grants.{acting}
 use Rattle.seat.specs.definitions.Table.{grantsOf}
 use Rattle.register_image.specs.definitions.Image.{Images, images, result}
 use Rattle.register_image.specs.definitions.Fixed.{lengthsWrong}

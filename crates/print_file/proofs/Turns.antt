@@ -10,7 +10,6 @@ use Rattle.rack.specs.definitions.Tree.{Tree}
 use Rattle.seat.specs.definitions.Grants.{Grants}
 use Rattle.register_image.specs.definitions.Image.{Images}
 use Rattle.file_record.specs.definitions.Number.{byteIn}
-use Rattle.file_record.specs.definitions.Record.{sizeOf}
 use Rattle.file_record.specs.laws.RecordLaws.{size-least}
 use Rattle.print_line.specs.declared.Line.{Line}
 use Rattle.print_line.specs.definitions.Line.{textOf}

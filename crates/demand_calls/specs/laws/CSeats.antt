@@ -15,10 +15,9 @@ use Rattle.file_record.specs.definitions.Events.{eventIn}
 use Rattle.file_record.specs.definitions.Load.{rackAlone}
 use Rattle.file_record.specs.laws.LoadLaws.{alone-stored}
 use Rattle.call_table.specs.definitions.Call.{runIn}
-use Rattle.call_numbers.specs.definitions.Called.{Called}
 use Rattle.muzgante.specs.definitions.Called.{repliedCall, rackRun}
 use Rattle.demand_calls.specs.definitions.Events.{DeniedWrite, WouldStore}
-use Rattle.demand_calls.specs.definitions.CCalls.{number, deniedCall, CAct, afterCalls, allTold}
+use Rattle.demand_calls.specs.definitions.CCalls.{number, deniedCall, afterCalls, allTold}
 use Rattle.demand_calls.specs.laws.Seats.{event-denied, event-stores, seat-kept}
 use Rattle.demand_calls.specs.laws.CRefusing.{run-refuses}
 use Rattle.demand_calls.specs.laws.CChecking.{answers}

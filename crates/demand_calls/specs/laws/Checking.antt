@@ -35,7 +35,7 @@ use Rattle.event_run.specs.declared.Answer.the-variants.{Checked}
 use Rattle.event_run.specs.definitions.Answers.{answerNumber}
 use Rattle.event_run.specs.definitions.Run.{configuration, addressed, ended, eventRun}
 use Rattle.call_table.specs.declared.Reply.the-variants.{Refused, Answered}
-use Rattle.call_table.specs.definitions.Call.{refusalBy, eventRefusal, runRefusal, runIn, checkIn}
+use Rattle.call_table.specs.definitions.Call.{refusalBy, runRefusal, runIn, checkIn}
 use Rattle.route_laws.specs.definitions.Ends.{isClash}
 use Rattle.demand_calls.specs.laws.Numbered.{ended-number, checked-number}
 use Rattle.demand_calls.specs.laws.Refusing.{accepted, accepts, field-right, event-untouched, event-runs, event-accepted}

@@ -32,7 +32,7 @@ use Rattle.event_run.specs.declared.Answer.the-variants.{Checked}
 use Rattle.event_run.specs.definitions.Answers.{crossingsOf}
 use Rattle.event_run.specs.definitions.Run.{configuration, addressed, registerOf, reached, endedAt, ended, eventRun}
 use Rattle.call_table.specs.declared.Reply.the-variants as reply
-use Rattle.call_table.specs.definitions.Call.{eventRefusal, runRefusal, ran, runIn, checkIn}
+use Rattle.call_table.specs.definitions.Call.{runRefusal, ran, runIn, checkIn}
 use Rattle.demand_calls.specs.laws.Refusing.{field-right, event-untouched, event-runs, event-accepted}
 use Rattle.demand_calls.specs.laws.Checking.{said, initiator}
 use Rattle.demand_calls.specs.definitions.Events.{Fits, crossings, startBus, Goes}

@@ -25,7 +25,7 @@ use Rattle.route_laws.specs.laws.Changes.{access-same, configure-same}
 use Rattle.file_record.specs.declared.Event.{Event}
 use Rattle.file_record.specs.declared.Event.the-variants.{Write, Read, Memory, Io, Check, Seat}
 use Rattle.event_run.specs.definitions.Run.{configuration, addressed, registerOf, reached, endedAt, accessed, eventRun}
-use Rattle.call_table.specs.definitions.Call.{eventRefusal, runRefusal, runIn}
+use Rattle.call_table.specs.definitions.Call.{runRefusal, runIn}
 use Rattle.demand_calls.specs.laws.Refusing.{event-untouched, event-runs}
 use Rattle.demand_calls.specs.definitions.Events.{WritesNone, Act, AllWriteNone, afterAll}
 

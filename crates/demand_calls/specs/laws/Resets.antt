@@ -24,7 +24,6 @@ use Rattle.claim_laws.specs.definitions.Same.{SameButStatus}
 use Rattle.claim_laws.specs.laws.Apart.{same-refl}
 use Rattle.route_bus.specs.declared.Access.{Access}
 use Rattle.route_bus.specs.declared.Outcome.{Outcome}
-use Rattle.route_bus.specs.declared.End.{End}
 use Rattle.route_bus.specs.declared.Route.{Route}
 use Rattle.route.specs.definitions.Route.{configure}
 use Rattle.route_laws.specs.laws.HeldBus.{held-unclaimed}
@@ -35,7 +34,6 @@ use Rattle.file_record.specs.laws.LoadLaws.{alone-accepted, alone-stored}
 use Rattle.file_record.specs.declared.Event.{Event}
 use Rattle.file_record.specs.declared.Event.the-variants.{Write, Read, Memory, Io, Check, Seat}
 use Rattle.event_run.specs.declared.Ending.the-variants.{Unclaimed, Silent}
-use Rattle.event_run.specs.declared.Answer.{Answer}
 use Rattle.event_run.specs.declared.Answer.the-variants.{Ended}
 use Rattle.event_run.specs.definitions.Answers.{answerNumber}
 use Rattle.event_run.specs.definitions.Run.{configuration, addressed, answers, endedAt, configured, eventRun}

@@ -11,7 +11,7 @@ use Rattle.rack.specs.laws.Bools.{tested}
 use Rattle.rack.specs.definitions.Tree.{Tree}
 use Rattle.rack.specs.definitions.Stored.{Stored}
 use Rattle.rack.specs.definitions.Refusal.{rackRefusal}
-use Rattle.seat.specs.definitions.Grants.{Grants, Acting, acting, mayWrite}
+use Rattle.seat.specs.definitions.Grants.{Grants, Acting, acting}
 use Rattle.seat.specs.laws.Writing.{zero-may, may-granted}
 use Rattle.seat_laws.specs.definitions.Kept.{Kept}
 use Rattle.seat_laws.specs.definitions.Denied.{Arrives}
@@ -35,7 +35,7 @@ use Rattle.event_run.specs.definitions.Answers.{answerNumber}
 use Rattle.event_run.specs.definitions.Run.{configuration, addressed, answers, accessed, eventRun}
 use Rattle.call_table.specs.declared.Reply.{Reply}
 use Rattle.call_table.specs.definitions.Call.{runRefusal, ran, runIn}
-use Rattle.demand_calls.specs.definitions.Events.{replyNumber, crossings, afterAll, allBy, AtOwner, Outside, DeniedWrite, deniedReply, Would, WouldStore}
+use Rattle.demand_calls.specs.definitions.Events.{replyNumber, crossings, afterAll, allBy, AtOwner, DeniedWrite, deniedReply, Would, WouldStore}
 use Rattle.demand_calls.specs.laws.Numbered.{checked-number}
 use Rattle.demand_calls.specs.laws.Refusing.{field-right, event-untouched, event-runs, event-accepted}
 

@@ -26,7 +26,7 @@ use Rattle.file_record.specs.declared.Event.the-variants.{Write, Read, Memory, 
 use Rattle.file_record.specs.definitions.Events.{eventWrong}
 use Rattle.event_run.specs.definitions.Answers.{answerNumber}
 use Rattle.event_run.specs.definitions.Run.{configuration, addressed, ended, eventRun}
-use Rattle.call_table.specs.definitions.Call.{eventRefusal, runRefusal, runIn}
+use Rattle.call_table.specs.definitions.Call.{runRefusal, runIn}
 use Rattle.demand_calls.specs.definitions.Events.{replyNumber, MayNotDrive}
 use Rattle.demand_calls.specs.laws.Numbered.{ended-number, checked-number}
 use Rattle.demand_calls.specs.laws.Refusing.{field-right, event-untouched, event-runs, event-accepted}

@@ -29,7 +29,7 @@ use Rattle.file_record.specs.declared.Event.the-variants.{Write, Read, Memory, 
 use Rattle.event_run.specs.declared.Ending.the-variants.{Special}
 use Rattle.event_run.specs.definitions.Answers.{answerNumber}
 use Rattle.event_run.specs.definitions.Run.{configuration, addressed, answers, endedAt, ended, configured, accessed, eventRun}
-use Rattle.call_table.specs.definitions.Call.{eventRefusal, runRefusal, ran, runIn}
+use Rattle.call_table.specs.definitions.Call.{runRefusal, ran, runIn}
 use Rattle.demand_calls.specs.definitions.Events.{replyNumber, SpecialCycle, specialReply}
 use Rattle.demand_calls.specs.laws.Numbered.{ended-number, checked-number}
 use Rattle.demand_calls.specs.laws.Refusing.{event-untouched, event-runs, event-accepted}

@@ -3,18 +3,18 @@
 use mathlib.Core.Path.{_≡_, refl, sym, ap, _∙_}
 use mathlib.Core.Bool.{Bool, true, false, false≢true}
 use mathlib.Core.List.{List}
-use Prim.Native.Nat.{ℕ, zero, suc, _+_, _-_, _≤_, _<_}
+use Prim.Native.Nat.{ℕ, zero, suc, _-_, _≤_, _<_}
 use native.Mathlib.Omega.{arith}
 use lib.Dec.{ltb, eqb, lit<}
 use lib.ListN.{length}
 use borrow.Author.Tests.{ltb-true, ltb-false, eqb-true, eqb-false}
-use Rattle.rack.specs.laws.Bools.{tested, not-fails}
+use Rattle.rack.specs.laws.Bools.{tested}
 use Rattle.rack.specs.laws.FirstLaws.{when-not}
 use Rattle.rack_laws.specs.laws.First.{at, list-none-given}
 use Rattle.seat.specs.definitions.Grants.{seated}
 use Rattle.file_record.specs.declared.Class.the-variants as class
 use Rattle.file_record.specs.definitions.Record.{classIn, isA}
-use Rattle.file_record.specs.definitions.Load.{Reading, atStart, isFaulty, recordFaults, recordFault, taken, Loading, loaded, readIn, fileIn, rackAlone}
+use Rattle.file_record.specs.definitions.Load.{Reading, atStart, isFaulty, recordFaults, recordFault, taken, Loading, loaded, readIn, fileIn}
 use Rattle.file_record.specs.laws.Turns.{read-all, read-has}
 use Rattle.file_record.specs.laws.LoadLaws.{read-long, read-some}
 use Rattle.file_laws.specs.definitions.Records.{before, Stands, FaultySeat}

@@ -9,7 +9,7 @@ use lib.ListN.{length, getD}
 use borrow.Author.Tests.{eq-eqb, eqb-true, ltb-false, not-false}
 use Rattle.rack.specs.declared.Node.{Node}
 use Rattle.rack.specs.definitions.First.{_when_, _or_, first}
-use Rattle.rack.specs.laws.FirstLaws.{when-not, or-last, or-next, chain-found}
+use Rattle.rack.specs.laws.FirstLaws.{when-not, or-last, chain-found}
 use Rattle.rack.specs.definitions.Tree.{Tree}
 use Rattle.rack.specs.definitions.Table.{treeOf}
 use Rattle.rack.specs.definitions.Grow.{noTree, grown}

@@ -6,7 +6,6 @@ use mathlib.Core.List.{List, [], _∷_}
 use Prim.Native.Nat.{ℕ, zero, suc, _+_, _-_}
 use native.Mathlib.Omega.{arith}
 use lib.Dec.{eqb}
-use lib.ListN.{length}
 use borrow.Author.Tests.{ne-eqb}
 use Rattle.rack.specs.definitions.Tree.{Tree, host, IsBus}
 use Rattle.rack.specs.definitions.Stored.{Stored}
@@ -23,7 +22,7 @@ use Rattle.route_bus.specs.declared.End.the-variants.{Unclaimed, Special}
 use Rattle.route_bus.specs.declared.Route.{Route}
 use Rattle.route_bus.specs.declared.Sight.{Sight}
 use Rattle.route_bus.specs.declared.Sight.the-variants.{Ends, Crosses}
-use Rattle.route_bus.specs.definitions.End.{ifUnclaimed, ends}
+use Rattle.route_bus.specs.definitions.End.{ifUnclaimed}
 use Rattle.route_bus.specs.laws.EndLaws.{by-end}
 use Rattle.route_bus.specs.definitions.Look.{unclaimed, owned, claimed, isSpecialCycle, look}
 use Rattle.route_bus.specs.laws.LookLaws.{look-special, by-direct}

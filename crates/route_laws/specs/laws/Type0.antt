@@ -10,7 +10,6 @@ use Rattle.rack.specs.definitions.Tree.{Tree, host}
 use Rattle.register_image.specs.definitions.Image.{Images, Result, gives}
 use Rattle.claim_agent.specs.definitions.Claimants.{firstTwo}
 use Rattle.route_bus.specs.declared.Access.{Access}
-use Rattle.route_bus.specs.declared.Outcome.{Outcome}
 use Rattle.route_bus.specs.declared.End.{End}
 use Rattle.route_bus.specs.declared.End.the-variants.{Node, Unclaimed, Silent}
 use Rattle.route_bus.specs.declared.Route.{Route}
@@ -18,7 +17,7 @@ use Rattle.route_bus.specs.declared.Sight.{Sight}
 use Rattle.route_bus.specs.declared.Sight.the-variants.{Ends, Crosses}
 use Rattle.route_bus.specs.definitions.End.{ends}
 use Rattle.route_bus.specs.laws.EndLaws.{by-end}
-use Rattle.route_bus.specs.definitions.Look.{unclaimed, isSpecialCycle, found, look}
+use Rattle.route_bus.specs.definitions.Look.{unclaimed, found, look}
 use Rattle.route_bus.specs.laws.LookLaws.{by-direct}
 use Rattle.route_bus.specs.definitions.Cross.{otherBus, turnsType0, passed, passedEnd, crossed}
 use Rattle.route.specs.definitions.Route.{follow, busStep, bridgeStep, possible, configure}

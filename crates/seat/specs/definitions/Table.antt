@@ -1,7 +1,7 @@
 -- How grants are stored for lending: a number for each pair of seat and node, and one after them. Contracts of code above name
 -- `grantsOf`; the rest is for this crate alone.
 use Prim.Native.Nat.{ℕ, _+_, _%_}
-use mathlib.Core.Bool.{Bool, not, cond}
+use mathlib.Core.Bool.{not, cond}
 use mathlib.Core.List.{List}
 use lib.Dec.{leb, eqb}
 use lib.ListN.{getD}

@@ -3,13 +3,12 @@ use mathlib.Core.Path.{_≡_, refl, sym, ap, _∙_}
 use mathlib.Core.Bool.{true, false, true≢false}
 use mathlib.Core.List.{List, [], _∷_, _++_}
 use Prim.Native.Nat.{ℕ, zero, suc, _+_, _<_}
-use native.Mathlib.Omega.{arith}
 use lib.Dec.{leb, eqb}
 use lib.ListN.{length}
-use borrow.Author.Tests.{leb-true, leb-false, eqb-true, eqb-false}
+use borrow.Author.Tests.{leb-false, eqb-true, eqb-false}
 use Rattle.rack.specs.definitions.Tree.{Tree}
 use Rattle.rack.specs.laws.Bools.{tested}
-use Rattle.seat.specs.definitions.Grants.{Grants, Acting, acting, noGrants, unknownSeat, mayWrite}
+use Rattle.seat.specs.definitions.Grants.{Grants, Acting, acting, noGrants, unknownSeat}
 use Rattle.seat.specs.laws.Writing.{zero-may, none-unknown}
 use Rattle.register_image.specs.definitions.Image.{Images, Result}
 use Rattle.claim_agent.specs.declared.Space.the-variants as space
@@ -21,11 +20,11 @@ use Rattle.file_record.specs.declared.Event.{Event}
 use Rattle.file_record.specs.declared.Event.the-variants.{Write, Read, Memory, Io, Check, Seat}
 use Rattle.file_record.specs.definitions.Number.{byteIn}
 use Rattle.file_record.specs.definitions.Record.{sizeOf}
-use Rattle.file_record.specs.definitions.Events.{eventIn, seatAfter, actsAfter}
+use Rattle.file_record.specs.definitions.Events.{eventIn, seatAfter}
 use Rattle.file_record.specs.definitions.Load.{fileIn}
 use Rattle.file_laws.specs.laws.Running.{OnEvents, start-on, next-on, event-right}
 use Rattle.event_run.specs.declared.Answer.{Answer}
-use Rattle.event_run.specs.definitions.Run.{configuration, addressed, registerOf, reached, endedAt, eventRun}
+use Rattle.event_run.specs.definitions.Run.{configuration, addressed, reached, endedAt, eventRun}
 use Rattle.print_file.specs.definitions.Output.{answerLine, linesOf, eventsUpTo, eventsAt, outputOf}
 use Rattle.print_laws.specs.laws.Whole.{startOf, output-accepted}
 use Rattle.seat_laws.specs.definitions.Before.{beforeAt, runBefore, linesBefore}

@@ -1,12 +1,11 @@
 -- 02, E1: a write is denied exactly where seat 0's would be stored and the register is below 40h and outside the grant; then its crossings
 -- are the same and no image changes. A write that is granted ends as seat 0's.
 use mathlib.Core.Path.{_≡_, refl, sym, ap, _∙_}
-use mathlib.Core.Bool.{Bool, true, false, true≢false, false≢true}
+use mathlib.Core.Bool.{true, false}
 use mathlib.Core.List.{List}
 use Prim.Native.Nat.{ℕ, _<_}
 use native.Mathlib.Omega.{arith}
 use lib.ListN.{length}
-use borrow.Author.Tests.{eq-eqb}
 use Rattle.rack.specs.definitions.Tree.{Tree}
 use Rattle.rack.specs.laws.Bools.{tested}
 use Rattle.seat.specs.definitions.Grants.{Grants, Acting, acting, isGranted, mayWrite}
@@ -20,10 +19,8 @@ use Rattle.route_bus.specs.declared.Route.{Route}
 use Rattle.route_bus.specs.definitions.Look.{found}
 use Rattle.route.specs.definitions.Route.{configure}
 use Rattle.route_laws.specs.definitions.Ends.{endNumber, endsAtNode}
-use Rattle.route_laws.specs.definitions.Path.{ToType0}
-use Rattle.route_laws.specs.laws.Type0.{arrived, only-node}
+use Rattle.route_laws.specs.laws.Type0.{only-node}
 use Rattle.event_run.specs.declared.Ending.the-variants.{Stored, Denied}
-use Rattle.event_run.specs.declared.Answer.{Answer}
 use Rattle.event_run.specs.definitions.Answers.{answerNumber}
 use Rattle.seat_laws.specs.definitions.Denied.{Arrives, Denial}
 use Rattle.event_run.specs.definitions.Run.{answers, registerOf, reached, endedAt, ended, configured}

@@ -1,10 +1,6 @@
 use borrow.Author.Needs.{needs}
 use Rattle.file_record.proofs.record.seat_in.Statement.{statement}
 use Rattle.file_record.proofs.record.seat_in.Tie as tie
-use Rattle.file_record.proofs.record.seat_in.Reads as reads
-use Rattle.file_record.proofs.record.seat_in.Lts as lts
-use Rattle.file_record.proofs.number.word_in.Reads as word-in-reads
-use Rattle.register_header.proofs.register.byte_at.Reads as byte-at-reads
 
 add-byte-at : tie.Need-add-byte-at
 add-byte-at c = search needs
