@@ -20,7 +20,7 @@ use Rattle.call_table.specs.declared.RangeReply.the-variants as range-re
 use Rattle.call_table.specs.definitions.Call.{refusalBy, ran}
 
 module _ (t : Tree) (g : Grants) (im : Images) (field seat : ℕ) where
-  -- 6 to 10, then 11 and 12, then 13, 14 and 15
+  -- 6 to 10, then 11, 12 and 18, then 13, 14 and 15
   pub rack-first : {r : ℕ} → r ≡ rackRefusal t → (r ≡ 0 → ⊥) → r ≡ refusalBy t g im field seat
   unfolding refusalBy
   rack-first e ne = e ∙ sym (or-this _ _ (λ z. ne (e ∙ z)))

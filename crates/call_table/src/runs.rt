@@ -15,7 +15,7 @@ use file_record::Event;
 use rack::table::Table;
 use seat::table::GrantTable;
 
-// An event of the acting seat over a table: refused by 6 to 15, or run.
+// An event of the acting seat over a table: refused by 6 to 15 or 18, or run.
 pub fn run_on(
     table: &Table,
     grants: &GrantTable,
@@ -36,7 +36,7 @@ pub fn run_on(
     Reply::Answered(a)
 }
 
-// The check over a table: refused by 6 to 12 and 14, or made.
+// The check over a table: refused by 6 to 12, 18 and 14, or made.
 pub fn check_on<'a>(
     table: &Table,
     grants: &GrantTable,

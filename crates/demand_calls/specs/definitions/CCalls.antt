@@ -22,7 +22,7 @@ pub record InOrder (b : List ℕ) (event : ℕ) (im : Images) (field seat : ℕ)
   pub by-rack : (rackAlone b .refusal ≡ 0 → ⊥) → r ≡ refusedCall (rackAlone b .refusal) im
   -- 'The event to run is read next, before 11'
   pub by-event : rackAlone b .refusal ≡ 0 → (event ≡ 0 → ⊥) → r ≡ refusedCall event im
-  -- 'then 11 to 13': 11 and 12 of the images
+  -- 'then 11 to 13': 11 and 12 of the images, and 18 'straight after 12'
   pub by-image : rackAlone b .refusal ≡ 0 → event ≡ 0 → (imageRefusal (rackAlone b .tree) im ≡ 0 → ⊥)
       → r ≡ refusedCall (imageRefusal (rackAlone b .tree) im) im
   -- 13

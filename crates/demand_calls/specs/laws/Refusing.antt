@@ -27,7 +27,7 @@ module _ (t : Tree) (g : Grants) (im : Images) (field seat : ℕ) where
   unfolding refusalBy
   by-rack ne = or-this _ _ ne
 
-  -- then 11 and 12 of the images
+  -- then 11, 12 and 18 of the images
   pub by-image : rackRefusal t ≡ 0 → (imageRefusal t im ≡ 0 → ⊥) → refusalBy t g im field seat ≡ imageRefusal t im
   unfolding refusalBy
   by-image z ne = or-next _ _ z ∙ or-this _ _ ne

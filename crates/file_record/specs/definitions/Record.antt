@@ -57,7 +57,7 @@ classNumber class.Event = 5
 abbrev pub isA : Class → Class → Bool
 isA k c = eqb (classNumber k) (classNumber c)
 
--- a record of the rack itself: host, node or seat. Register records 'stand after all other rack records'
+-- a record of the rack itself: host, node or seat. A register record 'stands after all other rack records'
 abbrev pub isRack : Class → Bool
 isRack c = (isA class.Host c || isA class.Node c) || isA class.Seat c
 

@@ -23,8 +23,8 @@ abbrev pub endsCall : RangeReply → Images → Called
 endsCall e im = record { code = endsCode e; numbers = endsNumbers e; after = im }
 
 -- rack_run. 01: 'The two C calls take the rack records as bytes: 1 to 10 as for a file .. The event to run is read next, before 11: no
--- byte or no event kind is 2, any length but its own is 3'; then 11 to 15, or the event is run. 02, E1: 'A call that runs an event is
--- told the acting seat'
+-- byte or no event kind is 2, any length but its own is 3'; then 11, 12, 18, 13, 14 and 15, or the event is run. 02, E1: 'A call that
+-- runs an event is told the acting seat'
 unfoldable pub rackRun : List ℕ → ℕ → List ℕ → Images → Called
 rackRun b seat event im =
     unless (rackAlone b .refusal or eventBytes event)

@@ -33,7 +33,7 @@ noRegion = record { kind = 0; exponent = 0 }
 abbrev pub regionIn : Node → ℕ → Region
 regionIn n r = getD (n .regions) r noRegion
 
--- a region that a record can say: 'A bridge has no regions', so those of a decoded bridge are no content of its rack
+-- a region that a record can say: a bridge's record has none, so those of a decoded bridge are no content of its rack
 abbrev pub ownRegion : Node → ℕ → Region
 ownRegion n r = cond (isBridge (n .kind)) noRegion (regionIn n r)
 

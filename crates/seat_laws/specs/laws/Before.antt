@@ -96,7 +96,7 @@ module _ (b : List ℕ) (ok : fileIn b .refusal ≡ 0) (no-seats : fileIn b .gra
       let i = leb-false (length b) o q in
       rw q (seat-0 o p i, names-none left (o + sizeOf (byteIn b o)) (next-on b ok o p i)))
 
-  -- 'a rack without seat records prints what it printed'
+  -- a file whose rack has no seat record prints what it printed before there were any
   pub output-before : outputOf b ≡ linesBefore (fileIn b .tree) 1 (startOf b) (eventsAt b (fileIn b .offset))
   output-before =
       output-accepted b ok

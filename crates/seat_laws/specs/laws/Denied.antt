@@ -68,7 +68,7 @@ module _ (t : Tree) (im : Images) (x : Access) where
       unfolding endedAt reached
       is-denied m = ap (ended t by x) (a .route) ∙ rw (write, m)
 
-      -- 'exactly where': the register is below 40h and the bit is not granted
+      -- exactly there: the register is below 40h and the bit is not granted
       pub denies : (by .seat ≡ 0 → ⊥) → x .register < 64 → isGranted by g (x .register) ≡ false → Denial t by im x
       unfolding endedAt reached registerOf
       denies other low out =
