@@ -1,23 +1,28 @@
--- 02, E5: 'A held node claims nothing and drives nothing': it is at reset, and a node at reset does neither.
-use mathlib.Core.Path.{_≡_, refl, _∙_}
-use mathlib.Core.Bool.{true, false, and-false, not}
-use mathlib.Core.List.{List, []}
+-- 02, E5: 'A held node claims nothing and drives nothing': it is at reset, and a node at reset does neither. So nobody claims a bus number
+-- on a held bus.
+use mathlib.Core.Path.{_≡_, refl, ap, _∙_}
+use mathlib.Core.Bool.{Bool, true, false, and-false, not}
+use mathlib.Core.Logic.{inl, inr}
+use mathlib.Core.List.{List, [], _∷_}
 use Prim.Native.Nat.{ℕ, _≤_, _<_}
 use native.Mathlib.Omega.{arith}
 use lib.Dec.{leb, eqb}
 use lib.ListN.{getD}
-use borrow.Author.Tests.{ne-eqb, lt-leb}
+use borrow.Author.Tests.{ne-eqb, eq-eqb, lt-leb}
 use Rattle.rack.specs.declared.Node.{Node}
 use Rattle.rack.specs.definitions.Node.{isBridge}
-use Rattle.rack.specs.definitions.Tree.{Tree, host}
+use Rattle.rack.specs.definitions.Tree.{Tree, host, nodesOn, IsBus}
+use Rattle.rack.specs.definitions.Refusal.{rackRefusal}
 use Rattle.rack.specs.laws.Bools.{tested}
+use Rattle.rack_laws.specs.laws.Agents.{All, all-on}
+use Rattle.rack_laws.specs.laws.Sound.{not-host}
 use Rattle.register_header.specs.declared.Options.{Options}
 use Rattle.register_header.specs.definitions.Options.{optionsOf}
 use Rattle.register_header.specs.definitions.PciRegs.{COMMAND, COMMAND-MASTER, SECONDARY-BUS, SUBORDINATE-BUS}
 use Rattle.register_header.specs.definitions.Mask.{resetByte}
 use Rattle.register_header.specs.definitions.Register.{bitAt}
 use Rattle.register_image.specs.definitions.Image.{Images, view}
-use Rattle.bus_reset.specs.definitions.Held.{isHeld}
+use Rattle.bus_reset.specs.definitions.Held.{heldBus, isHeld}
 use Rattle.bus_reset.specs.definitions.Agreement.{disagrees}
 use Rattle.register_laws.specs.laws.Images.{view-missing}
 use Rattle.register_laws.specs.laws.Resets.{zero-reset}
@@ -25,7 +30,8 @@ use Rattle.register_laws.specs.laws.Held.{held-byte}
 use Rattle.claim_agent.specs.declared.Space.{Space}
 use Rattle.claim_agent.specs.declared.Space.the-variants as space
 use Rattle.claim_agent.specs.definitions.Agent.{bridgeOf, deviceOf, agentOf}
-use Rattle.claim_agent.specs.definitions.Claim.{primaryClaims, secondaryClaims, deviceClaims, claimsOf, claims}
+use Rattle.claim_agent.specs.definitions.Claim.{primaryClaims, secondaryClaims, deviceClaims, hostClaims, claimsOf, claims}
+use Rattle.claim_agent.specs.definitions.Claimants.{claimantsIn, claimants}
 
 -- the command byte, and a bridge's two bus numbers, are 0 at reset
 command-reset : (n : Node) → resetByte n COMMAND ≡ 0
@@ -105,3 +111,29 @@ module _ (t : Tree) (im : Images) (agrees : disagrees t im ≡ false) (g : ℕ) 
   -- and its command bit 2 is clear
   pub held-master : bitAt (getD (view t im g) COMMAND 0) COMMAND-MASTER ≡ false
   held-master = rw held-command
+
+-- agents none of which claims
+none-claim : (claim : ℕ → Bool) (driver : ℕ) (l : List ℕ) → All (λ g. claim g ≡ false) l → claimantsIn claim driver l ≡ []
+unfolding claimantsIn All
+none-claim claim driver [] q = refl
+none-claim claim driver (g ∷ gs) q = rw (q .0) (none-claim claim driver gs (q .1))
+
+module _ (t : Tree) (im : Images) (ok : rackRefusal t ≡ 0) where
+  -- the holder of a bus claims no bus number there
+  holder-claims : (bus a : ℕ) → IsBus t bus → claims t im space.Configuration bus bus a ≡ false
+  unfolding agentOf claimsOf hostClaims secondaryClaims
+  holder-claims bus a (inl e) = rw e
+  holder-claims bus a (inr q) = rw (ne-eqb bus host (not-host t ok bus (q .0)), q .1, eq-eqb bus bus refl)
+
+  module _ (agrees : disagrees t im ≡ false) (bus : ℕ) (held : heldBus t im bus ≡ true) where
+    -- all nodes on a held bus are held, so none of them claims
+    pub held-nodes : (s : Space) (a : ℕ) → Asked s a → (driver : ℕ)
+        → claimantsIn (λ g. claims t im s bus g a) driver (nodesOn t bus) ≡ []
+    held-nodes s a h driver =
+        none-claim (λ g. claims t im s bus g a) driver (nodesOn t bus)
+        (all-on t bus (λ g. claims t im s bus g a ≡ false) 0 (t .count)
+        (λ k l m p. held-claims t im agrees k (omega arith) (ap (heldBus t im) p ∙ held) (not-host t ok k (omega arith)) s bus a h))
+
+    pub held-numbers : IsBus t bus → (a : ℕ) → 1 ≤ a → (driver : ℕ) → claimants t im space.Configuration bus driver a ≡ []
+    unfolding claimantsIn
+    held-numbers is a h driver = rw (holder-claims bus a is, held-nodes space.Configuration a h driver)

@@ -16,7 +16,7 @@ use Rattle.register_image.specs.definitions.Image.{Images, Result, gives}
 use Rattle.claim_agent.specs.declared.Space.the-variants as space
 use Rattle.route_bus.specs.declared.Access.{Access}
 use Rattle.route_bus.specs.declared.Route.{Route}
-use Rattle.event_run.specs.declared.Ending.the-variants.{Special, Denied}
+use Rattle.event_run.specs.declared.Ending.the-variants.{Special, Denied, Silent}
 use Rattle.event_run.specs.definitions.Run.{configuration, addressed, ended}
 use Rattle.call_table.specs.declared.Reply.the-variants as reply
 use Rattle.demand_passed.specs.definitions.Way.{Selected, Went, startOf, Silenced}
@@ -108,6 +108,10 @@ MayNotDrive t im (Memory i direction address) = (i < t .count) × (drives t im i
 MayNotDrive t im (Io i direction address) = (i < t .count) × (drives t im i ≡ false)
 MayNotDrive t im Check = ⊥
 MayNotDrive t im (Seat seat) = ⊥
+
+-- nothing is crossed and no image changes
+abbrev pub silentReply : Images → Result Reply
+silentReply im = gives (reply.Answered (Ended 0 Silent)) im
 
 -- 02, E4: the event is a special cycle and comes over these bridges to a Type 0 on the bus of that holder
 abbrev pub SpecialCycle : Tree → Images → Event → List ℕ → ℕ → Type 0

@@ -18,7 +18,6 @@ use Rattle.check_search.specs.declared.Report.the-variants.{Pass, Fault}
 use Rattle.check_search.specs.definitions.Check.{check}
 use Rattle.demand_passed.specs.laws.Clear.{passed, passes, faulted}
 use Rattle.file_record.specs.definitions.Load.{rackAlone}
-use Rattle.file_record.specs.laws.LoadLaws.{alone-accepted}
 use Rattle.event_run.specs.declared.Answer.the-variants.{Checked}
 use Rattle.call_table.specs.declared.Reply.the-variants.{Answered}
 use Rattle.call_numbers.specs.definitions.Numbers.{eight, numbersOf}
@@ -74,7 +73,7 @@ module _ (b : List ℕ) (im : Images) where
         s .0,
         s .1,
         s .2,
-        passed (rackAlone b .tree) im (alone-accepted b (s .0)) (s .1)
+        passed (rackAlone b .tree) im
             (told-pass (check (rackAlone b .tree) im) (sym (ap (λ (l : List ℕ). getD l 0 0) (s .3)) ∙ n)),
       )
 
@@ -82,7 +81,7 @@ module _ (b : List ℕ) (im : Images) where
       → OneClaimant (rackAlone b .tree) im → rackCheck b im ≡ record { code = 0; numbers = eight 8 []; after = im }
   c-check-passes z y w o =
       check-refuses b im .accepts z refl y refl w refl .0
-      ∙ ap (λ (r : Report). repliedCall (gives (Answered (Checked r)) im)) (passes (rackAlone b .tree) im (alone-accepted b z) y o)
+      ∙ ap (λ (r : Report). repliedCall (gives (Answered (Checked r)) im)) (passes (rackAlone b .tree) im o)
 
   -- 'If it does not pass, it shows the clash, driver and two claimants that document 01 names first'
   pub c-check-faulted : (bus : ℕ) (space : Space) (a driver x y : ℕ)
@@ -91,7 +90,7 @@ module _ (b : List ℕ) (im : Images) where
   c-check-faulted bus space a driver x y n =
       let m : number (rackCheck b im) ≡ 9 = ap (λ (l : List ℕ). getD l 0 0) n in
       let s = checked (answers (check-refuses b im .untouched) (λ z. omega arith)) in
-      faulted (rackAlone b .tree) im (alone-accepted b (s .0)) (s .1) bus space a driver x y
+      faulted (rackAlone b .tree) im bus space a driver x y
       (told-fault bus space a driver x y (check (rackAlone b .tree) im) (sym (s .3) ∙ n))
 
   -- and it shows one whenever it is accepted and does not pass

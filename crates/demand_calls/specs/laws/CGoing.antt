@@ -15,6 +15,8 @@ use Rattle.register_image.specs.definitions.Image.{Images, Result}
 use Rattle.claim_laws.specs.definitions.Same.{SameButStatus}
 use Rattle.check_search.specs.declared.Report.the-variants.{Pass, Fault}
 use Rattle.file_record.specs.definitions.Number.{byteIn, dwordIn, qwordIn}
+use Rattle.file_record.specs.declared.Event.{Event}
+use Rattle.file_record.specs.declared.Event.the-variants.{Check}
 use Rattle.file_record.specs.definitions.Events.{eventIn, eventBytes}
 use Rattle.file_record.specs.definitions.Load.{rackAlone}
 use Rattle.file_record.specs.laws.LoadLaws.{alone-accepted, alone-stored}
@@ -24,13 +26,14 @@ use Rattle.event_run.specs.declared.Answer.{Answer}
 use Rattle.event_run.specs.declared.Answer.the-variants.{Ended, Checked, Seated}
 use Rattle.call_table.specs.declared.Reply.{Reply}
 use Rattle.call_table.specs.declared.Reply.the-variants as reply
-use Rattle.call_table.specs.definitions.Call.{eventRefusal, seatRefusal, ran, runIn, checkIn}
+use Rattle.call_table.specs.definitions.Call.{eventRefusal, seatRefusal, runRefusal, ran, runIn, checkIn}
 use Rattle.call_numbers.specs.definitions.Numbers.{numbersOf, replyNumbers}
 use Rattle.call_numbers.specs.definitions.Called.{Called}
 use Rattle.muzgante.specs.definitions.Called.{repliedCall, rackRun, rackCheck}
 use Rattle.demand_calls.specs.laws.Refusing.{accepts}
-use Rattle.demand_calls.specs.laws.Checking.{check-passes, event-no-clash}
-use Rattle.demand_calls.specs.definitions.Events.{Fits, replyNumber, Goes, crossings, startBus}
+use Rattle.demand_calls.specs.laws.Checking.{event-is-check, check-passes, event-no-clash}
+use Rattle.demand_calls.specs.laws.Silent.{event-silent}
+use Rattle.demand_calls.specs.definitions.Events.{Fits, replyNumber, Goes, crossings, startBus, MayNotDrive, silentReply}
 use Rattle.demand_calls.specs.laws.Going.{event-goes, event-crossings}
 use Rattle.demand_calls.specs.laws.CRefusing.{run-refuses}
 use Rattle.demand_calls.specs.laws.CChecking.{answers, c-check-passed}
@@ -95,6 +98,34 @@ module _ (b : List ℕ) (seat : ℕ) (event : List ℕ) (im : Images) where
       → number (rackRun b seat event im) ≡ replyNumber (runIn (rackAlone b .tree) (acting (rackAlone b .grants) seat) im (eventIn event 0) .answer)
   said c = ap number (handed c) ∙ first (runIn (rackAlone b .tree) (acting (rackAlone b .grants) seat) im (eventIn event 0) .answer)
 
+  -- no refusal over the rack that was read
+  pub run-none : rackRun b seat event im .code ≡ 0 → runRefusal (rackAlone b .tree) (acting (rackAlone b .grants) seat) im (eventIn event 0) ≡ 0
+  run-none c =
+      let s = run-refuses b seat event im .accepted c in
+      accepts (rackAlone b .tree) (rackAlone b .grants) im (eventRefusal (rackAlone b .tree) (eventIn event 0))
+      (seatRefusal (acting (rackAlone b .grants) seat) (eventIn event 0)) (alone-accepted b (s .0)) (s .2) (s .3) (s .4) (s .5)
+
+  -- a check that is an event is `rack_check`
+  pub c-run-checks : eventIn event 0 ≡ Check → rackRun b seat event im .code ≡ 0 → rackRun b seat event im ≡ rackCheck b im
+  unfolding rackCheck
+  c-run-checks e c =
+      let t = rackAlone b .tree in
+      let by = acting (rackAlone b .grants) seat in
+      let z : runRefusal t by im Check ≡ 0 = rw e at (run-none c) in
+      handed c
+      ∙ ap (λ (k : Event). repliedCall (runIn t by im k)) e
+      ∙ ap repliedCall (event-is-check t (rackAlone b .grants) im seat z)
+      ∙ sym (unless-none _ _ (run-refuses b seat event im .accepted c .0))
+
+  -- 'is never driven': 7 is the number of a silent answer
+  pub c-run-silent : number (rackRun b seat event im) ≡ 7
+      → MayNotDrive (rackAlone b .tree) im (eventIn event 0) × (rackRun b seat event im ≡ repliedCall (silentReply im))
+  c-run-silent n =
+      let c = answers (run-refuses b seat event im .untouched) (λ z. omega arith) in
+      let s = event-silent (rackAlone b .tree) (acting (rackAlone b .grants) seat)
+      (λ ok. alone-stored b (run-refuses b seat event im .accepted c .0)) im (eventIn event 0) (sym (said c) ∙ n) in
+      (s .0, handed c ∙ ap repliedCall (s .1))
+
   -- 'The crossings carried in its answer are at most the depth of the starting bus plus the greatest depth in the rack'
   pub c-run-crossings : rackRun b seat event im .code ≡ 0 → Carries (number (rackRun b seat event im))
       → getD (rackRun b seat event im .numbers) 1 0
@@ -122,8 +153,7 @@ module _ (b : List ℕ) (seat : ℕ) (event : List ℕ) (im im' : Images) (pass 
       let e = eventIn event 0 in
       let s = run-refuses b seat event im' .accepted c in
       let by = acting (rackAlone b .grants) seat in
-      let z = accepts t (by .grants) im' (eventRefusal t e) (seatRefusal by e) (alone-accepted b (s .0)) (s .2) (s .3) (s .4) (s .5) in
-      let g = event-goes t by (λ ok. alone-stored b (s .0)) im im' passed same e (event-fits event bytes 0) z in
+      let g = event-goes t by (λ ok. alone-stored b (s .0)) im im' passed same e (event-fits event bytes 0) (run-none b seat event im' c) in
       (g .0, handed b seat event im' c ∙ ap repliedCall (g .1), g .2)
 
   -- 'and never in a clash'

@@ -15,7 +15,7 @@ use Rattle.rack.specs.definitions.Stored.{Stored}
 use Rattle.rack.specs.definitions.Refusal.{rackRefusal}
 use Rattle.seat.specs.definitions.Grants.{Grants, Acting, acting}
 use Rattle.seat.specs.laws.Writing.{unknown-zero}
-use Rattle.register_image.specs.definitions.Image.{Images, Result}
+use Rattle.register_image.specs.definitions.Image.{Images, Result, gives}
 use Rattle.bus_reset.specs.definitions.Agreement.{imageRefusal}
 use Rattle.claim_agent.specs.declared.Space.{Space}
 use Rattle.claim_agent.specs.declared.Space.the-variants as space
@@ -34,6 +34,7 @@ use Rattle.file_record.specs.definitions.Events.{initiates, accessWrong, eventW
 use Rattle.event_run.specs.declared.Answer.the-variants.{Checked}
 use Rattle.event_run.specs.definitions.Answers.{answerNumber}
 use Rattle.event_run.specs.definitions.Run.{configuration, addressed, ended, eventRun}
+use Rattle.call_table.specs.declared.Reply.{Reply}
 use Rattle.call_table.specs.declared.Reply.the-variants.{Refused, Answered}
 use Rattle.call_table.specs.definitions.Call.{refusalBy, runRefusal, runIn, checkIn}
 use Rattle.route_laws.specs.definitions.Ends.{isClash}
@@ -60,6 +61,14 @@ module _ (t : Tree) (g : Grants) (im : Images) where
   check-is-event =
       tested (eqb (refusalBy t g im 0 0) 0) (λ q. rw (unknown-zero g 0 refl, q)) (λ q. rw (unknown-zero g 0 refl, q))
 
+  -- and where that event is not refused, whichever seat acts
+  pub event-is-check : (seat : ℕ) → runRefusal t (acting g seat) im Check ≡ 0 → runIn t (acting g seat) im Check ≡ gives (checkIn t g im) im
+  unfolding eventRun
+  event-is-check seat z =
+      let a = event-accepted t (acting g seat) im Check z in
+      event-runs t (acting g seat) im Check z
+      ∙ ap (λ (r : Reply). gives r im) (sym (check-accepted (accepts t g im 0 0 (a .0) (a .1) refl (a .3) refl)))
+
   -- one that answers was accepted
   pub said : (r : Report) → checkIn t g im ≡ Answered (Checked r)
       → (rackRefusal t ≡ 0) × (imageRefusal t im ≡ 0) × (g .wrong ≡ false) × (check t im ≡ r)
@@ -78,16 +87,16 @@ module _ (t : Tree) (g : Grants) (im : Images) where
   -- 'an accepted check passes exactly when the count of claimants is at most one on every bus, ..'
   pub check-passed : checkIn t g im ≡ Answered (Checked Pass) → (rackRefusal t ≡ 0) × (imageRefusal t im ≡ 0) × (g .wrong ≡ false) × OneClaimant t im
   check-passed e =
-      let s = said Pass e in (s .0, s .1, s .2, passed t im (s .0) (s .1) (s .3))
+      let s = said Pass e in (s .0, s .1, s .2, passed t im (s .3))
 
   pub check-passes : rackRefusal t ≡ 0 → imageRefusal t im ≡ 0 → g .wrong ≡ false → OneClaimant t im → checkIn t g im ≡ Answered (Checked Pass)
-  check-passes z y w o = check-accepted (accepts t g im 0 0 z y refl w refl) ∙ ap (λ (r : Report). Answered (Checked r)) (passes t im z y o)
+  check-passes z y w o = check-accepted (accepts t g im 0 0 z y refl w refl) ∙ ap (λ (r : Report). Answered (Checked r)) (passes t im o)
 
   -- 'If it does not pass, it shows the clash, driver and two claimants that document 01 names first'
   pub check-faulted : (bus : ℕ) (space : Space) (a driver x y : ℕ) → checkIn t g im ≡ Answered (Checked (Fault bus space a driver x y))
       → FirstFault t im bus space a driver x y
   check-faulted bus space a driver x y e =
-      let s = said (Fault bus space a driver x y) e in faulted t im (s .0) (s .1) bus space a driver x y (s .3)
+      let s = said (Fault bus space a driver x y) e in faulted t im bus space a driver x y (s .3)
 
 module _ (t : Tree) where
   -- an initiator that 13 accepts is the host or a device
@@ -118,23 +127,23 @@ module _ (t : Tree) (by : Acting) (stored : rackRefusal t ≡ 0 → Stored t) (i
   routed-no-clash x o q n =
       eqb-false _ 6 q (ended-number t by (o .after) x (o .answer .crossings) (o .answer .end) n (omega arith) (λ z. omega arith))
 
-  run-no-clash : (e : Event) → Fits e → rackRefusal t ≡ 0 → Stored t → eventWrong t e ≡ false → imageRefusal t im ≡ 0 → check t im ≡ Pass
+  run-no-clash : (e : Event) → Fits e → rackRefusal t ≡ 0 → Stored t → eventWrong t e ≡ false → check t im ≡ Pass
       → answerNumber (eventRun t by im' e .answer) ≡ 6 → ⊥
   unfolding eventRun eventWrong
-  run-no-clash (Write bus devfn register enables put) f ok st w s p =
+  run-no-clash (Write bus devfn register enables put) f ok st w p =
       let x = configuration true bus devfn register enables put in
-      routed-no-clash x (configure t im' x) (configure-no-clash t ok st im s p im' same x (refl, f))
-  run-no-clash (Read bus devfn register) f ok st w s p =
+      routed-no-clash x (configure t im' x) (configure-no-clash t ok st im p im' same x (refl, f))
+  run-no-clash (Read bus devfn register) f ok st w p =
       let x = configuration false bus devfn register 0 0 in
-      routed-no-clash x (configure t im' x) (configure-no-clash t ok st im s p im' same x (refl, f))
-  run-no-clash (Memory i direction a) f ok st w s p =
+      routed-no-clash x (configure t im' x) (configure-no-clash t ok st im p im' same x (refl, f))
+  run-no-clash (Memory i direction a) f ok st w p =
       let x = addressed space.Memory direction a in
-      routed-no-clash x (access t im' x i) (access-no-clash t ok st im s p im' same x (inl (refl, f)) i (initiator t i direction w))
-  run-no-clash (Io i direction a) f ok st w s p =
+      routed-no-clash x (access t im' x i) (access-no-clash t ok st im p im' same x (inl (refl, f)) i (initiator t i direction w))
+  run-no-clash (Io i direction a) f ok st w p =
       let x = addressed space.Io direction a in
-      routed-no-clash x (access t im' x i) (access-no-clash t ok st im s p im' same x (inr (refl, f)) i (initiator t i direction w))
-  run-no-clash (Seat seat) f ok st w s p = λ n. let z : _≡_ {A = ℕ} 11 6 = n in omega arith
-  run-no-clash Check f ok st w s p = λ n. checked-number (check t im') n (λ z. omega arith) (λ z. omega arith)
+      routed-no-clash x (access t im' x i) (access-no-clash t ok st im p im' same x (inr (refl, f)) i (initiator t i direction w))
+  run-no-clash (Seat seat) f ok st w p = λ n. let z : _≡_ {A = ℕ} 11 6 = n in omega arith
+  run-no-clash Check f ok st w p = λ n. checked-number (check t im') n (λ z. omega arith) (λ z. omega arith)
 
   -- 'In a passed rack, with the registers it passed with, status bits aside, every accepted .. access .. never in a clash': no event
   -- answers with number 6
@@ -145,7 +154,7 @@ module _ (t : Tree) (by : Acting) (stored : rackRefusal t ≡ 0 → Stored t) (i
       let z = eqb-true (runRefusal t by im' e) 0 q in
       let a = event-accepted t by im' e z in
       let c = said t (by .grants) im Pass pass in
-      run-no-clash e f (a .0) (stored (a .0)) (field-right (a .2)) (c .1) (c .3) (rw (event-runs t by im' e z) at n))
+      run-no-clash e f (a .0) (stored (a .0)) (field-right (a .2)) (c .3) (rw (event-runs t by im' e z) at n))
       (λ q.
       let ne = eqb-false (runRefusal t by im' e) 0 q in
       let z : _≡_ {A = ℕ} 0 6 = rw (event-untouched t by im' e ne) at n in

@@ -12,7 +12,6 @@ use Rattle.rack.specs.definitions.Stored.{Stored}
 use Rattle.rack.specs.definitions.Refusal.{rackRefusal}
 use Rattle.seat.specs.definitions.Grants.{Acting, mayWrite}
 use Rattle.register_image.specs.definitions.Image.{Images, Result}
-use Rattle.bus_reset.specs.definitions.Agreement.{imageRefusal}
 use Rattle.register_laws.specs.laws.Accepted as images
 use Rattle.claim_agent.specs.declared.Space.the-variants as space
 use Rattle.claim_laws.specs.definitions.Same.{SameButStatus}
@@ -40,23 +39,23 @@ use Rattle.register_image.specs.definitions.Fixed.{lengthsWrong}
 
 module _ (t : Tree) (by : Acting) (stored : rackRefusal t ≡ 0 → Stored t) (im im' : Images)
     (pass : checkIn t (by .grants) im ≡ reply.Answered (Checked Pass)) (same : SameButStatus t im im') where
-  run-goes : (e : Event) → Fits e → rackRefusal t ≡ 0 → Stored t → eventWrong t e ≡ false → imageRefusal t im ≡ 0 → check t im ≡ Pass
+  run-goes : (e : Event) → Fits e → rackRefusal t ≡ 0 → Stored t → eventWrong t e ≡ false → check t im ≡ Pass
       → lengthsWrong t im' ≡ false → Goes t by im' e (eventRun t by im' e)
   unfolding eventRun eventWrong
-  run-goes (Write bus devfn register enables put) f ok st w s p l =
+  run-goes (Write bus devfn register enables put) f ok st w p l =
       let x = configuration true bus devfn register enables put in
-      (configure t im' x, refl, configure-goes t ok st im s p im' same l x (refl, f))
-  run-goes (Read bus devfn register) f ok st w s p l =
+      (configure t im' x, refl, configure-goes t ok st im p im' same l x (refl, f))
+  run-goes (Read bus devfn register) f ok st w p l =
       let x = configuration false bus devfn register 0 0 in
-      (configure t im' x, refl, configure-goes t ok st im s p im' same l x (refl, f))
-  run-goes (Memory i direction a) f ok st w s p l =
+      (configure t im' x, refl, configure-goes t ok st im p im' same l x (refl, f))
+  run-goes (Memory i direction a) f ok st w p l =
       let x = addressed space.Memory direction a in
-      (access t im' x i, refl, access-goes t ok st im s p im' same l x (inl (refl, f)) i (initiator t i direction w))
-  run-goes (Io i direction a) f ok st w s p l =
+      (access t im' x i, refl, access-goes t ok st im p im' same l x (inl (refl, f)) i (initiator t i direction w))
+  run-goes (Io i direction a) f ok st w p l =
       let x = addressed space.Io direction a in
-      (access t im' x i, refl, access-goes t ok st im s p im' same l x (inr (refl, f)) i (initiator t i direction w))
-  run-goes Check f ok st w s p l = tt
-  run-goes (Seat seat) f ok st w s p l = tt
+      (access t im' x i, refl, access-goes t ok st im p im' same l x (inr (refl, f)) i (initiator t i direction w))
+  run-goes Check f ok st w p l = tt
+  run-goes (Seat seat) f ok st w p l = tt
 
   -- 'In a passed rack, with the registers it passed with, status bits aside, every accepted configuration, memory or I/O access,
   -- whichever party starts it, is never driven, ends unclaimed, or ends at its one owner'
@@ -65,7 +64,7 @@ module _ (t : Tree) (by : Acting) (stored : rackRefusal t ≡ 0 → Stored t) (i
   event-goes e f z =
       let a = event-accepted t by im' e z in
       let c = said t (by .grants) im Pass pass in
-      (eventRun t by im' e, event-runs t by im' e z, run-goes e f (a .0) (stored (a .0)) (field-right (a .2)) (c .1) (c .3) (images.accepted t im' (a .1) .0))
+      (eventRun t by im' e, event-runs t by im' e z, run-goes e f (a .0) (stored (a .0)) (field-right (a .2)) (c .3) (images.accepted t im' (a .1) .0))
 
 -- what an access comes to carries the crossings of its route
 ended-crossings : (t : Tree) (by : Acting) (im : Images) (x : Access) (c : ℕ) (e : End) → crossingsOf (endedAt t by im x c e .answer) ≡ c

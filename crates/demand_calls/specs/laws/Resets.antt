@@ -1,6 +1,7 @@
 -- What request E5 says of events over the calls, proved.
 use mathlib.Core.Path.{_≡_, refl, ap}
 use mathlib.Core.Bool.{true, false}
+use mathlib.Core.Logic.{⊎-elim}
 use mathlib.Core.List.{List}
 use Prim.Native.Nat.{ℕ}
 use native.Mathlib.Omega.{arith}
@@ -18,6 +19,7 @@ use Rattle.seat.specs.definitions.Grants.{Grants, Acting, acting}
 use Rattle.register_image.specs.definitions.Image.{Images}
 use Rattle.register_image.specs.definitions.Fixed.{lengthsWrong}
 use Rattle.bus_reset.specs.definitions.Agreement.{imageRefusal}
+use Rattle.register_laws.specs.laws.Accepted.{agreed}
 use Rattle.register_laws.specs.laws.Held.{store-accepted, reset-accepted}
 use Rattle.claim_agent.specs.declared.Space.the-variants as space
 use Rattle.claim_laws.specs.definitions.Same.{SameButStatus}
@@ -25,12 +27,14 @@ use Rattle.claim_laws.specs.laws.Apart.{same-refl}
 use Rattle.route_bus.specs.declared.Access.{Access}
 use Rattle.route_bus.specs.declared.Outcome.{Outcome}
 use Rattle.route_bus.specs.declared.Route.{Route}
+use Rattle.route_bus.specs.definitions.Look.{found}
 use Rattle.route.specs.definitions.Route.{configure}
-use Rattle.route_laws.specs.laws.HeldBus.{held-unclaimed}
+use Rattle.route_laws.specs.laws.HeldBus.{held-unclaimed, held-type1}
 use Rattle.check_search.specs.definitions.Check.{check}
+use Rattle.demand_passed.specs.laws.Ways.{found-selected}
 use Rattle.file_record.specs.definitions.Events.{eventIn}
 use Rattle.file_record.specs.definitions.Load.{rackAlone}
-use Rattle.file_record.specs.laws.LoadLaws.{alone-accepted, alone-stored}
+use Rattle.file_record.specs.laws.LoadLaws.{alone-stored}
 use Rattle.file_record.specs.declared.Event.{Event}
 use Rattle.file_record.specs.declared.Event.the-variants.{Write, Read, Memory, Io, Check, Seat}
 use Rattle.event_run.specs.declared.Ending.the-variants.{Unclaimed, Silent}
@@ -42,31 +46,35 @@ use Rattle.event_laws.specs.laws.Accepted as runs
 use Rattle.event_laws.specs.laws.Stores.{stores}
 use Rattle.event_laws.specs.laws.Written.{configured-stored, configured-otherwise, accessed-same, read-not-stored, access-not-stored, held-silent}
 use Rattle.call_table.specs.declared.Reply.the-variants as reply
-use Rattle.call_table.specs.definitions.Call.{refusalBy, storeRefusal, eventRefusal, seatRefusal, runRefusal, storedIn, ran, runIn}
+use Rattle.call_table.specs.definitions.Call.{refusalBy, storeRefusal, runRefusal, storedIn, ran, runIn}
 use Rattle.muzgante.specs.definitions.Called.{rackRun, resetRefusal, rackReset}
-use Rattle.demand_calls.specs.definitions.Resets.{StoredBy, HeldInitiator, ToHeld, ToHeldBus, Resets}
+use Rattle.demand_calls.specs.definitions.Resets.{StoredAt, HeldInitiator, ToHeld, ToHeldBus, Resets}
 use Rattle.demand_calls.specs.laws.Refusing as refusing
 use Rattle.demand_calls.specs.laws.Refusing.{write-stores, event-runs, event-accepted}
 use Rattle.demand_calls.specs.laws.CRefusing.{run-refuses}
-use Rattle.demand_calls.specs.laws.CGoing.{handed}
+use Rattle.demand_calls.specs.laws.CGoing.{handed, run-none}
 use Rattle.demand_calls.specs.laws.Numbered.{checked-number}
 
 module _ (t : Tree) (by : Acting) (ok : rackRefusal t ≡ 0) (st : Stored t) (im : Images) (sound : imageRefusal t im ≡ 0) where
   -- a configuration access that comes to a held bus
-  configured-held : (x : Access) (gs : List ℕ) (holder : ℕ) → ToHeld t im x gs holder
+  configured-held : (x : Access) → x .space ≡ space.Configuration → (gs : List ℕ) (holder : ℕ) → ToHeld t im x gs holder
       → (o : Outcome) × (configured t by im x .answer ≡ Ended (length gs) (Unclaimed holder o))
   unfolding endedAt
-  configured-held x gs holder h =
-      let u = held-unclaimed t im x (h .0) ok st gs holder (h .1) (h .2) in
+  configured-held x config gs holder h =
+      let u = ⊎-elim (λ w. held-unclaimed t im x ok (w .0) st gs holder (w .1) (h .0))
+      (λ w. held-type1 t im x ok (agreed t im sound) config st gs holder w (h .0)) (h .1) in
       (u .0, ap (λ (r : Route). endedAt t by (configure t im x .after) x (r .crossings) (r .end) .answer) (u .1))
 
-  run-stored : (e : Event) → answerNumber (eventRun t by im e .answer) ≡ 2 → StoredBy t im e (eventRun t by im e .after)
+  run-stored : (e : Event) → answerNumber (eventRun t by im e .answer) ≡ 2
+      → (gs : List ℕ) × (holder : ℕ) × (g : ℕ) × StoredAt t im e gs holder g (eventRun t by im e .after)
   unfolding eventRun
-  run-stored (Write bus devfn register enables put) q = configured-stored t by ok st im sound (configuration true bus devfn register enables put) q
-  run-stored (Read bus devfn register) q = read-not-stored t by im (configuration false bus devfn register 0 0) refl q
-  run-stored (Memory i direction a) q = access-not-stored t by im (addressed space.Memory direction a) i refl q
-  run-stored (Io i direction a) q = access-not-stored t by im (addressed space.Io direction a) i refl q
-  run-stored Check q = checked-number (check t im) q (λ z. omega arith) (λ z. omega arith)
+  run-stored (Write bus devfn register enables put) q =
+      let s = configured-stored t by ok st im sound (configuration true bus devfn register enables put) q in
+      (s .0, s .1, found t im (s .1) devfn, (record { path = s .2; owner = found-selected t im (s .1) devfn (s .3) }, s .4))
+  run-stored (Read bus devfn register) q = absurd (read-not-stored t by im (configuration false bus devfn register 0 0) refl q)
+  run-stored (Memory i direction a) q = absurd (access-not-stored t by im (addressed space.Memory direction a) i refl q)
+  run-stored (Io i direction a) q = absurd (access-not-stored t by im (addressed space.Io direction a) i refl q)
+  run-stored Check q = absurd (checked-number (check t im) q (λ z. omega arith) (λ z. omega arith))
   run-stored (Seat seat) q = absurd (omega (arith, q))
 
   run-otherwise : (e : Event) → (answerNumber (eventRun t by im e .answer) ≡ 2 → ⊥) → SameButStatus t im (eventRun t by im e .after)
@@ -93,8 +101,8 @@ module _ (t : Tree) (by : Acting) (ok : rackRefusal t ≡ 0) (st : Stored t) (im
   run-unclaimed : (e : Event) (gs : List ℕ) (holder : ℕ) → ToHeldBus t im e gs holder
       → (o : Outcome) × (eventRun t by im e .answer ≡ Ended (length gs) (Unclaimed holder o))
   unfolding eventRun
-  run-unclaimed (Write bus devfn register enables put) gs holder h = configured-held (configuration true bus devfn register enables put) gs holder h
-  run-unclaimed (Read bus devfn register) gs holder h = configured-held (configuration false bus devfn register 0 0) gs holder h
+  run-unclaimed (Write bus devfn register enables put) gs holder h = configured-held (configuration true bus devfn register enables put) refl gs holder h
+  run-unclaimed (Read bus devfn register) gs holder h = configured-held (configuration false bus devfn register 0 0) refl gs holder h
   run-unclaimed (Memory i direction a) gs holder h = absurd h
   run-unclaimed (Io i direction a) gs holder h = absurd h
   run-unclaimed Check gs holder h = absurd h
@@ -138,23 +146,17 @@ module _ (t : Tree) (g : Grants) (stored : rackRefusal t ≡ 0 → Stored t) (im
 
 -- rack_run
 module _ (b : List ℕ) (seat : ℕ) (event : List ℕ) (im : Images) (c : rackRun b seat event im .code ≡ 0) where
-  run-none : runRefusal (rackAlone b .tree) (acting (rackAlone b .grants) seat) im (eventIn event 0) ≡ 0
-  run-none =
-      let s = run-refuses b seat event im .accepted c in
-      refusing.accepts (rackAlone b .tree) (rackAlone b .grants) im (eventRefusal (rackAlone b .tree) (eventIn event 0))
-      (seatRefusal (acting (rackAlone b .grants) seat) (eventIn event 0)) (alone-accepted b (s .0)) (s .2) (s .3) (s .4) (s .5)
-
   alone : rackRefusal (rackAlone b .tree) ≡ 0 → Stored (rackAlone b .tree)
   alone q = alone-stored b (run-refuses b seat event im .accepted c .0)
 
   pub c-run-resets : Resets (rackAlone b .tree) im (eventIn event 0)
       (runIn (rackAlone b .tree) (acting (rackAlone b .grants) seat) im (eventIn event 0))
-  c-run-resets = event-resets (rackAlone b .tree) (acting (rackAlone b .grants) seat) alone im (eventIn event 0) run-none
+  c-run-resets = event-resets (rackAlone b .tree) (acting (rackAlone b .grants) seat) alone im (eventIn event 0) (run-none b seat event im c)
 
   pub c-run-agrees : imageRefusal (rackAlone b .tree) (rackRun b seat event im .after) ≡ 0
   c-run-agrees =
       rw (handed b seat event im c)
-      (event-agrees (rackAlone b .tree) (acting (rackAlone b .grants) seat) alone im (eventIn event 0) run-none)
+      (event-agrees (rackAlone b .tree) (acting (rackAlone b .grants) seat) alone im (eventIn event 0) (run-none b seat event im c))
 
 -- rack_reset and rack_open
 pub c-reset-agrees : (b : List ℕ) (im : Images) → rackReset b im .code ≡ 0 → imageRefusal (rackAlone b .tree) (rackReset b im .after) ≡ 0

@@ -1,5 +1,4 @@
--- What a check shows: the first clash in document 01's order, and that all before it is clear. 02, E5: 'The check counts no held node as
--- claimant or driver'.
+-- What a check shows: the first clash in document 01's order, and that all before it is clear.
 use mathlib.Core.Path.{_≡_}
 use mathlib.Core.List.{List, [], _∷_, _++_}
 use Prim.Native.Nat.{ℕ, _≤_, _<_}
@@ -9,7 +8,8 @@ use Rattle.register_image.specs.definitions.Image.{Images}
 use Rattle.claim_agent.specs.declared.Space.{Space}
 use Rattle.claim_agent.specs.declared.Space.the-variants.{Memory, Io, Configuration}
 use Rattle.claim_agent.specs.definitions.Space.{lastOf}
-use Rattle.check_search.specs.definitions.Check.{firstOf}
+use Rattle.claim_agent.specs.definitions.Claimants.{claimants}
+use Rattle.check_search.specs.definitions.Check.{driversOf, firstOf}
 use Rattle.held_laws.specs.definitions.Others.{otherClaimants, otherDrivers}
 
 -- every member of a list
@@ -28,13 +28,20 @@ pub record FirstOf {A : Type 0} (Q : A → Type 0) (l : List A) (x : A) : Type 0
 abbrev pub spaces : List Space
 spaces = Configuration ∷ Memory ∷ Io ∷ []
 
-module _ (t : Tree) (im : Images) where
+-- the claimants of a space on a bus, for a driver and a value; the drivers of a bus in a space
+abbrev pub ClaimantsOf : Type 0
+ClaimantsOf = Space → ℕ → ℕ → ℕ → List ℕ
+
+abbrev pub DriversOf : Type 0
+DriversOf = ℕ → Space → List ℕ
+
+module _ (who : ClaimantsOf) (drivers : DriversOf) where
   -- at most one claimant: for a driver, for all drivers of every value of a space, and for all spaces of a bus
   abbrev pub Clear : ℕ → Space → ℕ → ℕ → Type 0
-  Clear bus space a driver = length (otherClaimants t im space bus driver a) ≤ 1
+  Clear bus space a driver = length (who space bus driver a) ≤ 1
 
   abbrev pub ClearAt : ℕ → Space → ℕ → Type 0
-  ClearAt bus space a = Each (Clear bus space a) (otherDrivers t im bus space)
+  ClearAt bus space a = Each (Clear bus space a) (drivers bus space)
 
   abbrev pub ClearIn : ℕ → Space → Type 0
   ClearIn bus space = (a : ℕ) → firstOf space ≤ a → a ≤ lastOf space → ClearAt bus space a
@@ -44,11 +51,19 @@ module _ (t : Tree) (im : Images) where
 
 -- what a check shows: the first bus, there the first kind, the lowest value and the first driver with two claimants, and the
 -- first two of them; whatever comes before has at most one
-pub record FirstFault (t : Tree) (im : Images) (bus : ℕ) (space : Space) (a driver x y : ℕ) : Type 0 where
-  pub bus-first : FirstOf (ClearOn t im) (buses t) bus
-  pub space-first : FirstOf (ClearIn t im bus) spaces space
+pub record FirstClash (who : ClaimantsOf) (drivers : DriversOf) (t : Tree) (bus : ℕ) (space : Space) (a driver x y : ℕ) : Type 0 where
+  pub bus-first : FirstOf (ClearOn who drivers) (buses t) bus
+  pub space-first : FirstOf (ClearIn who drivers bus) spaces space
   pub from-first : firstOf space ≤ a
   pub to-last : a ≤ lastOf space
-  pub lower : (b : ℕ) → firstOf space ≤ b → b < a → ClearAt t im bus space b
-  pub driver-first : FirstOf (Clear t im bus space a) (otherDrivers t im bus space) driver
-  pub two : (rest : List ℕ) × (otherClaimants t im space bus driver a ≡ x ∷ (y ∷ rest))
+  pub lower : (b : ℕ) → firstOf space ≤ b → b < a → ClearAt who drivers bus space b
+  pub driver-first : FirstOf (Clear who drivers bus space a) (drivers bus space) driver
+  pub two : (rest : List ℕ) × (who space bus driver a ≡ x ∷ (y ∷ rest))
+
+-- among all agents of a bus
+abbrev pub FirstFault : Tree → Images → ℕ → Space → ℕ → ℕ → ℕ → ℕ → Type 0
+FirstFault t im = FirstClash (claimants t im) (driversOf t) t
+
+-- among those that are not held. 02, E5: 'The check counts no held node as claimant or driver'
+abbrev pub FirstOther : Tree → Images → ℕ → Space → ℕ → ℕ → ℕ → ℕ → Type 0
+FirstOther t im = FirstClash (otherClaimants t im) (otherDrivers t im) t

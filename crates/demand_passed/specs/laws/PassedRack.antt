@@ -13,13 +13,10 @@ use Rattle.rack.specs.definitions.Stored.{Stored}
 use Rattle.rack.specs.definitions.Refusal.{rackRefusal}
 use Rattle.rack_laws.specs.laws.Sound.{nodes-le, not-host}
 use Rattle.register_image.specs.definitions.Image.{Images}
-use Rattle.bus_reset.specs.definitions.Agreement.{imageRefusal}
-use Rattle.register_laws.specs.laws.Accepted.{agreed}
 use Rattle.claim_agent.specs.declared.Space.{Space}
 use Rattle.claim_agent.specs.declared.Space.the-variants.{Memory, Io, Configuration}
 use Rattle.claim_agent.specs.definitions.Claimants.{claimants}
 use Rattle.claim_laws.specs.laws.Apart.{claimants-same}
-use Rattle.claim_laws.specs.laws.Held.{Asked}
 use Rattle.claim_laws.specs.definitions.Same.{SameButStatus}
 use Rattle.route_bus.specs.declared.Access.{Access}
 use Rattle.route_bus.specs.definitions.Cross.{otherBus}
@@ -29,8 +26,6 @@ use Rattle.route_laws.specs.definitions.Path.{Taken}
 use Rattle.route_laws.specs.laws.Possible.{parent-bus, crossings-le, configure-le}
 use Rattle.check_search.specs.declared.Report.the-variants.{Pass}
 use Rattle.check_search.specs.definitions.Check.{check}
-use Rattle.held_laws.specs.definitions.Others.{heldAgent, otherClaimants}
-use Rattle.held_laws.specs.laws.Others.{at-most-one}
 use Rattle.demand_passed.specs.laws.Clear.{passed}
 use Rattle.demand_passed.specs.laws.Ways.{Gone, from-gone, started-gone, gone-no-clash}
 use Rattle.demand_passed.specs.definitions.OneClaimant.{OneClaimant}
@@ -53,29 +48,26 @@ module _ (t : Tree) (ok : rackRefusal t ≡ 0) (st : Stored t) where
   unfolding otherBus
   holder-on bus driver g is e k = rw (ne-eqb g bus (λ q. k .other (q ∙ sym e)))
 
-  module _ (im : Images) (sound : imageRefusal t im ≡ 0) (pass : check t im ≡ Pass) (im' : Images) (same : SameButStatus t im im') where
+  module _ (im : Images) (pass : check t im ≡ Pass) (im' : Images) (same : SameButStatus t im im') where
     one : OneClaimant t im
-    one = passed t im ok sound pass
+    one = passed t im pass
 
     few : t .count ≤ 255
     few = omega (arith, nodes-le t ok)
 
-    claimants-as : (x : Access) (bus driver : ℕ) (s : Space) → x .space ≡ s → IsBus t bus → OnBus t bus driver → Asked s (x .address)
-        → (heldAgent t im driver ≡ false → length (otherClaimants t im s bus driver (x .address)) ≤ 1)
-        → length (claimants t im' (x .space) bus driver (x .address)) ≤ 1
-    claimants-as x bus driver s e is on asked n =
-        rw (e, sym (claimants-same t im im' same s bus driver (x .address)))
-        (at-most-one t im ok (agreed t im sound) s bus driver (x .address) is on asked n)
+    claimants-as : (x : Access) (bus driver : ℕ) (s : Space) → x .space ≡ s
+        → length (claimants t im s bus driver (x .address)) ≤ 1 → length (claimants t im' (x .space) bus driver (x .address)) ≤ 1
+    claimants-as x bus driver s e n = rw (e, sym (claimants-same t im im' same s bus driver (x .address))) n
 
     -- every memory and I/O access from a bus of an agent of that bus
     address-gone : (x : Access) → Address x → (bus driver : ℕ) → IsBus t bus → OnBus t bus driver
         → Gone t im' x bus driver false (from t im' x bus driver false)
     address-gone x (inl a) bus driver is on =
         from-gone t im' x few ok st (λ b d type0. OnBus t b d)
-        (λ b d s o. claimants-as x b d Memory (a .0) s o tt (λ free. one .memory b s d o free (x .address) (a .1))) drives-on bus driver false is on
+        (λ b d s o. claimants-as x b d Memory (a .0) (one .memory b s d o (x .address) (a .1))) drives-on bus driver false is on
     address-gone x (inr a) bus driver is on =
         from-gone t im' x few ok st (λ b d type0. OnBus t b d)
-        (λ b d s o. claimants-as x b d Io (a .0) s o tt (λ free. one .io b s d o free (x .address) (a .1))) drives-on bus driver false is on
+        (λ b d s o. claimants-as x b d Io (a .0) (one .io b s d o (x .address) (a .1))) drives-on bus driver false is on
 
     access-gone : (x : Access) → Address x → (i : ℕ) → Initiator t i
         → Silenced t im' i (access t im' x i .answer .end) ⊎ Gone t im' x (startOf t i) i false (access t im' x i)
@@ -91,8 +83,7 @@ module _ (t : Tree) (ok : rackRefusal t ≡ 0) (st : Stored t) where
     configure-gone x n =
         from-gone t im' x few ok st (λ b d type0. (d ≡ b) × (type0 ≡ false → 1 ≤ x .address))
         (λ b d s o.
-        claimants-as x b d Configuration (n .0) s (inl (o .0)) (o .1 refl)
-        (rw (o .0) (λ free. one .configuration b s free (x .address) (o .1 refl) (n .1))))
+        claimants-as x b d Configuration (n .0) (rw (o .0) (one .configuration b s (x .address) (o .1 refl) (n .1))))
         (λ b d g s o k. (holder-on b d g s (o .0) k, λ e. o .1 refl)) host host (eqb (x .address) 0) (inl refl)
         (refl, λ e. omega (arith, eqb-false (x .address) 0 e))
 

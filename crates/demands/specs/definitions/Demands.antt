@@ -33,6 +33,7 @@ use Rattle.check_search.specs.declared.Report.the-variants.{Pass, Fault}
 use Rattle.check_search.specs.definitions.Check.{check}
 use Rattle.held_laws.specs.definitions.Others.{otherCheck}
 use Rattle.file_record.specs.declared.Event.{Event}
+use Rattle.file_record.specs.declared.Event.the-variants as event
 use Rattle.file_record.specs.definitions.Events.{eventIn, eventBytes}
 use Rattle.file_record.specs.definitions.Load.{readIn, fileIn, rackAlone}
 use Rattle.file_record.specs.definitions.Start.{startImages}
@@ -46,7 +47,8 @@ use Rattle.event_run.specs.declared.Answer.the-variants.{Checked}
 use Rattle.event_run.specs.definitions.Run.{eventRun}
 use Rattle.event_laws.specs.definitions.Stores.{Stores}
 use Rattle.print_file.specs.definitions.Output.{linesOf, blank, eventsAt, firstAt, outputOf}
-use Rattle.print_file.specs.definitions.Place.{endUpTo}
+use Rattle.print_file.specs.definitions.Filling.{ranAt}
+use Rattle.print_file.specs.definitions.Place.{Place, endUpTo}
 use Rattle.call_table.specs.declared.Reply.the-variants as reply
 use Rattle.call_table.specs.declared.Number.the-variants as number
 use Rattle.call_table.specs.declared.RangeReply.the-variants as range
@@ -61,9 +63,9 @@ use Rattle.call_numbers.specs.definitions.Called.{refusedCall}
 use Rattle.call_save.specs.definitions.Save.{saveIn, bufferIn}
 use Rattle.call_file.specs.definitions.Filed.{filed, rackSave, sizes, rackOpen}
 use Rattle.muzgante.specs.definitions.Called.{repliedCall, endsCall, rackRun, rackCheck, rackWindow, rackReset, rackGrant}
-use Rattle.demand_passed.specs.definitions.OneClaimant.{OneClaimant}
-use Rattle.demand_passed.specs.definitions.FirstFault.{FirstFault}
-use Rattle.demand_calls.specs.definitions.Events.{Fits, replyNumber, Goes, crossings, startBus, Act, AllWriteNone, afterAll, allBy, MayNotDrive, SpecialCycle, specialReply, DeniedWrite, deniedReply, WouldStore}
+use Rattle.demand_passed.specs.definitions.OneClaimant.{OneClaimant, OneOther}
+use Rattle.demand_passed.specs.definitions.FirstFault.{FirstFault, FirstOther}
+use Rattle.demand_calls.specs.definitions.Events.{Fits, replyNumber, Goes, crossings, startBus, Act, AllWriteNone, afterAll, allBy, MayNotDrive, silentReply, SpecialCycle, specialReply, DeniedWrite, deniedReply, WouldStore}
 use Rattle.demand_calls.specs.definitions.CCalls.{InOrder, CAct, AllCallsWriteNone, afterCalls, Carries}
 use Rattle.demand_calls.specs.definitions.CCalls as c
 use Rattle.demand_calls.specs.definitions.Resets.{Resets}
@@ -306,12 +308,26 @@ pub record Demand1 : Type 0 where
 -- 02, E1: 'in demand 3 it counts as ended at its one owner': `Goes` has a write that is denied among those that came to the node of that
 -- device number, function 0, and `Denied3` says which ones are. Who acts plays no part in the check, which has no seat.
 
--- 02, E5: 'The check counts no held node as claimant or driver; for the other agents its pass still says at most one': `OneClaimant` and
--- `FirstFault` count the claimants that are not held, for drivers that are not held; and under `Goes` a Type 0 on a held bus ends unclaimed
--- or as a special cycle.
+-- 02, E5: 'The check counts no held node as claimant or driver; for the other agents its pass still says at most one': `BusResets` has the
+-- same with held nodes left out, which no held node makes different; and under `Goes` a Type 0 on a held bus ends unclaimed or as a special
+-- cycle.
 
 -- 02, E11: 'A rack that mixes them is checked and routed under the same guarantee as before': a node of these racks is a device, a bridge
 -- or an older bridge.
+
+-- a check that was made on some images and answered so
+pub record CheckedAt (t : Tree) (im : Images) (r : Result Answer) : Type 0 where
+  pub keeps : r .after ≡ im
+  pub passed : r .answer ≡ Checked Pass → OneClaimant t im
+  pub passes : OneClaimant t im → r .answer ≡ Checked Pass
+  pub faulted : (OneClaimant t im → ⊥)
+      → (bus : ℕ) × (space : Space) × (a : ℕ) × (driver : ℕ) × (x : ℕ) × (y : ℕ)
+      × (r .answer ≡ Checked (Fault bus space a driver x y)) × FirstFault t im bus space a driver x y
+
+-- where the run of a file stands after its first n events
+abbrev pub after : List ℕ → ℕ → Place
+after b n =
+    endUpTo n (fileIn b .tree) (fileIn b .grants) b (firstAt (fileIn b .offset)) (startImages b (blank (fileIn b .tree)))
 
 -- over the calls on a decoded rack, run_check and run_event
 pub record Checked3 (rack : Rack) (im : Images) : Type 0 where
@@ -322,6 +338,17 @@ pub record Checked3 (rack : Rack) (im : Images) : Type 0 where
   pub faulted : (bus : ℕ) (space : Space) (a driver x y : ℕ)
       → checkIn (tree rack) (grants rack) im ≡ reply.Answered (Checked (Fault bus space a driver x y))
       → FirstFault (tree rack) im bus space a driver x y
+
+-- a check that is an event is that check, whichever seat acts: of run_event and rack_run as of run_check and rack_check, and in a file on
+-- the registers that its first n events left. It changes none
+pub record CheckEvents : Type 0 where
+  pub events : (rack : Rack) (im : Images) (seat : ℕ) → runRefusal (tree rack) (acting (grants rack) seat) im event.Check ≡ 0
+      → runIn (tree rack) (acting (grants rack) seat) im event.Check ≡ gives (checkIn (tree rack) (grants rack) im) im
+  pub c-events : (b : List ℕ) (seat : ℕ) (bytes : List ℕ) (im : Images) → eventIn bytes 0 ≡ event.Check → rackRun b seat bytes im .code ≡ 0
+      → rackRun b seat bytes im ≡ rackCheck b im
+  pub files : (b : List ℕ) → fileIn b .refusal ≡ 0 → (n : ℕ) → eventIn b (after b n .next .offset) ≡ event.Check
+      → CheckedAt (fileIn b .tree) (after b n .before)
+      (ranAt (fileIn b .tree) (fileIn b .grants) b (after b n .next) (after b n .before))
 
 -- im are the registers that the rack passed with; `acts` are events that write no register, as many as one likes, by any seats
 pub record Passed3 (rack : Rack) (im : Images) : Type 0 where
@@ -397,17 +424,22 @@ pub record CDenied3 (b : List ℕ) (seat : ℕ) (event : List ℕ) (im : Images)
 
 pub record Demand3 : Type 0 where
   pub checked : (rack : Rack) (im : Images) → Checked3 rack im
+  pub check-events : CheckEvents
   pub passed : (rack : Rack) (im : Images) → checkIn (tree rack) (grants rack) im ≡ reply.Answered (Checked Pass) → Passed3 rack im
   pub crossed : (rack : Rack) (im : Images) (seat : ℕ) (e : Event)
       → crossings (runIn (tree rack) (acting (grants rack) seat) im e .answer)
       ≤ depth (tree rack) (startBus (tree rack) e) + greatestDepth (tree rack)
-  -- 'is never driven': an answer is silent, number 7, only where its initiator is a device with command bit 2 clear
+  -- 'is never driven': an answer is silent, number 7, only where its initiator is a device with command bit 2 clear, and then it has no
+  -- crossings and changes nothing
   pub silent : (rack : Rack) (im : Images) (seat : ℕ) (e : Event)
-      → replyNumber (runIn (tree rack) (acting (grants rack) seat) im e .answer) ≡ 7 → MayNotDrive (tree rack) im e
+      → replyNumber (runIn (tree rack) (acting (grants rack) seat) im e .answer) ≡ 7
+      → MayNotDrive (tree rack) im e × (runIn (tree rack) (acting (grants rack) seat) im e ≡ silentReply im)
   pub special : (rack : Rack) (im : Images) (seat : ℕ) (e : Event) → Special3 rack im seat e
   pub denied : (rack : Rack) (im : Images) (seat : ℕ) → Denied3 rack im seat
   pub c-checked : (b : List ℕ) (im : Images) → CChecked3 b im
   pub c-passed : (b : List ℕ) (im : Images) → c.number (rackCheck b im) ≡ 8 → CPassed3 b im
+  pub c-silent : (b : List ℕ) (seat : ℕ) (event : List ℕ) (im : Images) → c.number (rackRun b seat event im) ≡ 7
+      → MayNotDrive (rackAlone b .tree) im (eventIn event 0) × (rackRun b seat event im ≡ repliedCall (silentReply im))
   pub c-special : (b : List ℕ) (seat : ℕ) (event : List ℕ) (im : Images) → CSpecial3 b seat event im
   pub c-denied : (b : List ℕ) (seat : ℕ) (event : List ℕ) (im : Images) → CDenied3 b seat event im
   -- the endings 1 to 6, 10 and 12 carry their crossings as their second number
@@ -453,11 +485,12 @@ pub record Agrees : Type 0 where
 -- 02, E5, over the calls
 pub record BusResets : Type 0 where
   -- 'Writing 1, directly too, puts every node below back to reset registers and holds it there; only this write changes bytes outside its
-  -- node's part. On a held node a direct write stores nothing'
+  -- node's part. On a held node a direct write stores nothing'; 'Clearing the bit lets them go'
   pub writes : (rack : Rack) (im : Images) (i register enables put : ℕ)
       → refusalBy (tree rack) (grants rack) im (call.storeRefusal (tree rack) i register enables) 0 ≡ 0
       → Stores (tree rack) im i register enables put (call.storedIn (tree rack) (grants rack) im i register enables put)
-  -- the same of configuration writes; 'A held initiator's access is `silent`', 'configuration finds nobody on a held bus'
+  -- the same of a configuration write, at the node that it came to; 'A held initiator's access is `silent`', 'configuration finds nobody on a
+  -- held bus', as Type 0 and as Type 1
   pub runs : (rack : Rack) (im : Images) (seat : ℕ) (e : Event) → runRefusal (tree rack) (acting (grants rack) seat) im e ≡ 0
       → Resets (tree rack) im e (runIn (tree rack) (acting (grants rack) seat) im e)
   pub c-runs : (b : List ℕ) (seat : ℕ) (event : List ℕ) (im : Images) → rackRun b seat event im .code ≡ 0
@@ -466,8 +499,13 @@ pub record BusResets : Type 0 where
   -- 'A held node claims nothing': no address and no bus number 1 to 255
   pub claims-nothing : (t : Tree) (im : Images) → imageRefusal t im ≡ 0 → (g : ℕ) → g < t .count → (g ≡ host → ⊥) → isHeld t im g ≡ true
       → (s : Space) (bus a : ℕ) → (s ≡ space.Configuration → 1 ≤ a) → claims t im s bus g a ≡ false
-  -- 'The check counts no held node as claimant or driver'
+  -- 'The check counts no held node as claimant or driver; for the other agents its pass still says at most one', and what it shows is the
+  -- first clash among them
   pub checks : (t : Tree) (im : Images) → rackRefusal t ≡ 0 → imageRefusal t im ≡ 0 → check t im ≡ otherCheck t im
+  pub passed : (t : Tree) (im : Images) → rackRefusal t ≡ 0 → imageRefusal t im ≡ 0 → check t im ≡ Pass → OneOther t im
+  pub passes : (t : Tree) (im : Images) → rackRefusal t ≡ 0 → imageRefusal t im ≡ 0 → OneOther t im → check t im ≡ Pass
+  pub faulted : (t : Tree) (im : Images) → rackRefusal t ≡ 0 → imageRefusal t im ≡ 0 → (bus : ℕ) (space : Space) (a driver x y : ℕ)
+      → check t im ≡ Fault bus space a driver x y → FirstOther t im bus space a driver x y
   -- 'The bridge itself keeps claiming': bit 6 plays no part in what it claims, on either side
   pub keeps-claiming : (t : Tree) (im im' : Images) (g : ℕ) → isBridge (t .node g .kind) ≡ true → SameButReset (view t im g) (view t im' g)
       → (s : Space) (bus a : ℕ) → claims t im s bus g a ≡ claims t im' s bus g a

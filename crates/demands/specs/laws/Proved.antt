@@ -13,12 +13,15 @@ use Rattle.rack.specs.laws.Search.{none-all, found-at}
 use Rattle.seat.specs.definitions.Grants.{Grants, acting, namedMissing, grants}
 use Rattle.seat_laws.specs.laws.Files.{run-kept, run-accepted}
 use Rattle.seat_laws.specs.laws.Before.{zero-before, output-before}
-use Rattle.register_image.specs.definitions.Image.{Images}
+use Rattle.register_image.specs.definitions.Image.{Images, gives}
 use Rattle.bus_reset.specs.definitions.Agreement.{imageRefusal}
 use Rattle.register_laws.specs.laws.Accepted.{agreed}
 use Rattle.claim_laws.specs.laws.Held.{asked, held-claims}
 use Rattle.claim_laws.specs.laws.ResetBit.{reset-claims}
-use Rattle.check_search.specs.declared.Report.the-variants.{Pass}
+use Rattle.claim_agent.specs.declared.Space.{Space}
+use Rattle.check_search.specs.declared.Report.{Report}
+use Rattle.check_search.specs.declared.Report.the-variants.{Pass, Fault}
+use Rattle.check_search.specs.definitions.Check.{check}
 use Rattle.held_laws.specs.laws.OtherCheck.{check-others}
 use Rattle.file_record.specs.definitions.Load.{Loading, fileIn, rackAlone}
 use Rattle.file_record.specs.definitions.Start.{startImages}
@@ -39,6 +42,11 @@ use Rattle.save_laws.specs.laws.Content.{content-file, file-content}
 use Rattle.save_laws.specs.laws.Listed.{seats-listed, nodes-listed}
 use Rattle.save_laws.specs.laws.Output.{output-back, none-registers, start-reset, output-reset}
 use Rattle.event_run.specs.declared.Answer.the-variants.{Checked}
+use Rattle.event_run.specs.definitions.Run.{eventRun}
+use Rattle.demand_passed.specs.definitions.OneClaimant.{OneClaimant}
+use Rattle.demand_passed.specs.definitions.FirstFault.{FirstFault}
+use Rattle.demand_passed.specs.laws.Clear as clear
+use Rattle.demand_passed.specs.laws.Clear.{one-other, other-one, other-faulted}
 use Rattle.arbiter.specs.definitions.Arbiter.{step}
 use Rattle.arbiter.specs.laws.Answers.{is-refused, is-answered, no-refusal}
 use Rattle.call_table.specs.declared.Reply.the-variants as reply
@@ -169,6 +177,35 @@ demand1 =
       c-grants = c-grants;
     }
 
+-- a check on some images
+checked-at : (t : Tree) (im : Images) → demands.CheckedAt t im (gives (Checked (check t im)) im)
+checked-at t im =
+    record {
+      keeps = refl;
+      passed = λ e. clear.passed t im (is-pass (check t im) e);
+      passes = λ o. ap Checked (clear.passes t im o);
+      faulted = λ ne. shows (check t im) refl ne;
+    }
+  where
+    is-pass : (r : Report) → Checked r ≡ Checked Pass → r ≡ Pass
+    is-pass r e = cc
+
+    shows : (r : Report) → check t im ≡ r → (OneClaimant t im → ⊥)
+        → (bus : ℕ) × (space : Space) × (a : ℕ) × (driver : ℕ) × (x : ℕ) × (y : ℕ)
+        × (Checked (check t im) ≡ Checked (Fault bus space a driver x y)) × FirstFault t im bus space a driver x y
+    shows Pass e ne = absurd (ne (clear.passed t im e))
+    shows (Fault bus space a driver x y) e ne =
+        (bus, space, a, driver, x, y, ap Checked e, clear.faulted t im bus space a driver x y e)
+
+check-events : demands.CheckEvents
+unfolding eventRun
+check-events =
+    record {
+      events = λ rack im. checking.event-is-check (tree rack) (grants rack) im;
+      c-events = c-going.c-run-checks;
+      files = λ b ok n e. rw e (checked-at (fileIn b .tree) (demands.after b n .before));
+    }
+
 passed : (rack : Rack) (im : Images) → checkIn (tree rack) (grants rack) im ≡ reply.Answered (Checked Pass) → demands.Passed3 rack im
 passed rack im pass =
     record {
@@ -194,6 +231,7 @@ demand3 =
             passes = checking.check-passes (tree rack) (grants rack) im;
             faulted = checking.check-faulted (tree rack) (grants rack) im;
           };
+      check-events = check-events;
       passed = passed;
       crossed = decoded.rack-crossings;
       silent = λ rack im seat. event-silent (tree rack) (acting (grants rack) seat) (accepted-stored rack) im;
@@ -215,6 +253,7 @@ demand3 =
             shows = c-checking.c-check-shows b im;
           };
       c-passed = c-passed;
+      c-silent = c-going.c-run-silent;
       c-special = λ b seat event im.
           record { ends = c-special.c-run-arrives b seat event im; only = c-special.c-run-special b seat event im };
       c-denied = λ b seat event im. record { only = c-run-denied b seat event im; would = c-run-stores b seat event im };
@@ -249,6 +288,9 @@ bus-resets =
       c-runs = λ b seat event im ok. (c-run-resets b seat event im ok, handed b seat event im ok);
       claims-nothing = λ t im e g h ne held s bus a n. held-claims t im (agreed t im e) g h held ne s bus a (asked s a n);
       checks = λ t im ok e. check-others t im ok (agreed t im e);
+      passed = λ t im ok e p. one-other t im ok e (clear.passed t im p);
+      passes = λ t im ok e o. clear.passes t im (other-one t im ok e o);
+      faulted = other-faulted;
       keeps-claiming = reset-claims;
     }
 

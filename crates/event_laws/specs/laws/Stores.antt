@@ -1,12 +1,12 @@
 -- What a register write changes, with all that it does, in accepted images.
 use mathlib.Core.Path.{_≡_, sym, ap, _∙_}
-use mathlib.Core.Logic.{_⊎_, ⊎-elim}
+use mathlib.Core.Logic.{_⊎_, inr, ⊎-elim}
 use mathlib.Core.Bool.{true, false, false≢true, cond}
 use mathlib.Core.List.{List}
 use Prim.Native.Nat.{ℕ, _<_}
-use lib.Dec.{ltb}
+use lib.Dec.{eqb, ltb}
 use lib.ListN.{length}
-use borrow.Author.Tests.{ltb-true, ltb-false}
+use borrow.Author.Tests.{eqb-true, eqb-false, ltb-true, ltb-false}
 use Rattle.rack.specs.definitions.Tree.{Tree, parentOf}
 use Rattle.rack.specs.definitions.Stored.{Stored}
 use Rattle.rack.specs.definitions.Refusal.{rackRefusal}
@@ -21,7 +21,7 @@ use Rattle.register_laws.specs.laws.Images.{view-missing, view-length, view-sam
 use Rattle.register_laws.specs.laws.Registers.{write-length}
 use Rattle.register_laws.specs.laws.Accepted.{accepted, agreed, write-sound, accepted-sound, Sound}
 use Rattle.register_laws.specs.laws.Resets.{unchanged}
-use Rattle.register_laws.specs.laws.Above.{found-above, above-own}
+use Rattle.register_laws.specs.laws.Above.{above-found, found-above, above-own}
 use Rattle.register_laws.specs.laws.Held.{resets-same, held-unchanged, below-view}
 use Rattle.event_laws.specs.definitions.Stores.{Stores}
 
@@ -99,21 +99,39 @@ module _ (t : Tree) (ok : rackRefusal t ≡ 0) (st : Stored t) (im : Images) (e 
       tested (isBelow t i j) (λ b. set-other q s j hj ne ∙ rw b (sym (at-reset was j hj b))) (λ b. set-other q s j hj ne ∙ rw b))
       (λ h. view-missing t after j (ltb-false j _ h) ∙ sym (view-missing t im j (ltb-false j _ h)))
 
+  -- where bit 6 was set before, or is clear after it, no other node changes
+  other-view : (resets t im i ≡ true) ⊎ (resets t after i ≡ false) → (j : ℕ) → (j ≡ i → ⊥) → view t after j ≡ view t im j
+  other-view o j ne =
+      tested (isHeld t im i) (λ q. ap (λ (u : Images). view t u j) (when-held q))
+      (λ q.
+      tested (resets t written i)
+      (λ s. ⊎-elim (λ was. alone-set q s was j ne) (λ off. absurd (false≢true (sym off ∙ own-resets q ∙ s))) o)
+      (λ s. ap (λ (u : Images). view t u j) (when-clear q s) ∙ written-other j ne))
+
+  -- a held node has a bridge above it that resets, and this one does not
+  let-go : resets t after i ≡ false → (j : ℕ) → ((b : ℕ) → (b ≡ i → ⊥) → isBelow t b j ≡ true → resets t im b ≡ false)
+      → isHeld t after j ≡ false
+  let-go off j none =
+      tested (isHeld t after j)
+      (λ q.
+      let b = above-found t (resets t after) (parentOf t j) q in
+      tested (eqb (b .0) i) (λ r. absurd (false≢true (sym off ∙ ap (resets t after) (sym (eqb-true (b .0) i r)) ∙ b .1)))
+      (λ r.
+      let ne = eqb-false (b .0) i r in
+      absurd (false≢true (sym (none (b .0) ne (b .2)) ∙ sym (resets-same t after im (b .0) (other-view (inr off) (b .0) ne)) ∙ b .1))))
+      (λ q. q)
+
   pub stores : Stores t im i register enables put (storeNode t im i register enables put)
   unfolding after put-in
   stores =
       record {
         held = when-held;
         own = λ q h. own-view q ∙ written-own h;
-        alone = λ o j ne.
-            tested (isHeld t im i) (λ q. ap (λ (u : Images). view t u j) (when-held q))
-            (λ q.
-            tested (resets t written i)
-            (λ s. ⊎-elim (λ was. alone-set q s was j ne) (λ off. absurd (false≢true (sym off ∙ own-resets q ∙ s))) o)
-            (λ s. ap (λ (u : Images). view t u j) (when-clear q s) ∙ written-other j ne));
+        alone = other-view;
         sets = λ off on j h ne.
             tested (isHeld t im i)
             (λ q. absurd (false≢true (sym off ∙ ap (λ (u : Images). resets t u i) (sym (when-held q)) ∙ on)))
             (λ q. set-other q (sym (own-resets q) ∙ on) j h ne);
         holds = λ on j b. found-above t (resets t after) i (parentOf t j) on b;
+        lets-go = let-go;
       }

@@ -25,6 +25,7 @@ use Rattle.route_bus.specs.definitions.Look.{found}
 use Rattle.route_bus.specs.definitions.Cross.{isConfiguration}
 use Rattle.route.specs.definitions.Route.{configure, access}
 use Rattle.route_laws.specs.definitions.Ends.{endsAtNode}
+use Rattle.route_laws.specs.definitions.Path.{ToType0}
 use Rattle.route_laws.specs.laws.Changes.{configure-same, access-same}
 use Rattle.route_laws.specs.laws.Arrives.{node-fails, access-none}
 use Rattle.route_laws.specs.laws.Silent.{access-silent}
@@ -74,15 +75,17 @@ module _ (t : Tree) (by : Acting) where
   ended-otherwise im x c end.Silent ne = refl
 
   module _ (ok : rackRefusal t ≡ 0) (st : Stored t) (im : Images) (sound : imageRefusal t im ≡ 0) where
-    -- a configuration access that ends `stored` is the register write of one node, and leaves what that leaves
+    -- a configuration access that ends `stored` came to a Type 0 and found a node there; it is the register write of that node, and
+    -- leaves what that leaves
     pub configured-stored : (x : Access) → answerNumber (configured t by im x .answer) ≡ 2
-        → (g : ℕ) × Stores t im g (x .register) (x .enables) (x .«data») (configured t by im x .after)
+        → (gs : List ℕ) × (holder : ℕ) × ToType0 t im x gs holder × (found t im holder (x .devfn) ≡ 255 → ⊥)
+        × Stores t im (found t im holder (x .devfn)) (x .register) (x .enables) (x .«data») (configured t by im x .after)
     unfolding endedAt
     configured-stored x q =
         let o = configure t im x in
         let s = only-node t im x (ended-node (o .after) x (o .answer .crossings) (o .answer .end) q) in
         let g = found t im (s .1) (x .devfn) in
-        (g, rw (after x (s .0) g (s .4) q) (stores t ok st im sound g (x .register) (x .enables) (x .«data»)))
+        (s .0, s .1, s .2, s .3, rw (after x (s .0) g (s .4) q) (stores t ok st im sound g (x .register) (x .enables) (x .«data»)))
       where
         after : (x : Access) (gs : List ℕ) (g : ℕ) → configure t im x ≡ arrived im gs (end.Node g)
             → answerNumber (configured t by im x .answer) ≡ 2

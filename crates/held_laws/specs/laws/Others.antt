@@ -8,11 +8,10 @@ use native.Mathlib.Omega.{arith}
 use lib.Dec.{eqb}
 use lib.ListN.{length}
 use borrow.Author.Tests.{eqb-false}
-use Rattle.rack.specs.definitions.Tree.{Tree, host, nodesOn, agents, IsBus, OnBus}
+use Rattle.rack.specs.definitions.Tree.{Tree, host, agents, IsBus, OnBus}
 use Rattle.rack.specs.definitions.Refusal.{rackRefusal}
 use Rattle.rack.specs.laws.Bools.{tested, opposite, both, neither}
 use Rattle.rack_laws.specs.laws.Agents.{All, all-on}
-use Rattle.rack_laws.specs.laws.Sound.{not-host}
 use Rattle.register_image.specs.definitions.Image.{Images}
 use Rattle.bus_reset.specs.definitions.Held.{resets, heldBus, isHeld}
 use Rattle.bus_reset.specs.definitions.Agreement.{disagrees}
@@ -21,7 +20,7 @@ use Rattle.claim_agent.specs.declared.Space.{Space}
 use Rattle.claim_agent.specs.declared.Space.the-variants.{Memory, Io, Configuration}
 use Rattle.claim_agent.specs.definitions.Claim.{claims}
 use Rattle.claim_agent.specs.definitions.Claimants.{claimantsIn, claimants}
-use Rattle.claim_laws.specs.laws.Held.{Asked, held-claims}
+use Rattle.claim_laws.specs.laws.Held.{Asked, held-claims, held-nodes}
 use Rattle.check_search.specs.definitions.Check.{driversOf}
 use Rattle.held_laws.specs.definitions.Others.{heldAgent, others, otherClaimants, otherDrivers}
 
@@ -40,12 +39,6 @@ module _ (t : Tree) (im : Images) where
   unfolding others All
   all-others [] q = refl
   all-others (g ∷ gs) q = rw (q .0) (ap (λ (l : List ℕ). g ∷ l) (all-others gs (q .1)))
-
-  -- agents none of which claims
-  none-claim : (claim : ℕ → Bool) (driver : ℕ) (l : List ℕ) → All (λ g. claim g ≡ false) l → claimantsIn claim driver l ≡ []
-  unfolding claimantsIn All
-  none-claim claim driver [] q = refl
-  none-claim claim driver (g ∷ gs) q = rw (q .0) (none-claim claim driver gs (q .1))
 
   module _ (agrees : disagrees t im ≡ false) (space : Space) (bus a : ℕ) (asked : Asked space a) where
     quiet : (g : ℕ) → (g ≡ host) ⊎ (g < t .count) → heldAgent t im g ≡ true → claims t im space bus g a ≡ false
@@ -67,11 +60,7 @@ module _ (t : Tree) (im : Images) where
     pub held-bus-one : rackRefusal t ≡ 0 → heldBus t im bus ≡ true → (driver : ℕ) → length (claimants t im space bus driver a) ≤ 1
     unfolding claimantsIn
     held-bus-one ok held driver =
-        let none : claimantsIn (λ g. claims t im space bus g a) driver (nodesOn t bus) ≡ [] =
-        none-claim (λ g. claims t im space bus g a) driver (nodesOn t bus)
-        (all-on t bus (λ g. claims t im space bus g a ≡ false) 0 (t .count)
-        (λ k l m p.
-        held-claims t im agrees k (omega arith) (ap (heldBus t im) p ∙ held) (not-host t ok k (omega arith)) space bus a asked)) in
+        let none = held-nodes t im ok agrees bus held space a asked driver in
         tested (claims t im space bus bus a && not (eqb bus driver)) (λ q. rw (q, none) (omega arith)) (λ q. rw (q, none) (omega arith))
 
   module _ (ok : rackRefusal t ≡ 0) (bus : ℕ) (is : IsBus t bus) (free : heldBus t im bus ≡ false) where

@@ -39,6 +39,10 @@ module _ (t : Tree) (im : Images) (x : Access) where
   abbrev pub ToType0 : List ℕ → ℕ → Type 0
   ToType0 gs holder = (by : ℕ) × Path host host (eqb (x .address) 0) gs holder by true
 
+  -- or to a Type 1 there
+  abbrev pub ToType1 : List ℕ → ℕ → Type 0
+  ToType1 gs holder = (by : ℕ) × Path host host (eqb (x .address) 0) gs holder by false
+
   -- 02, E4: 'It ends as `special` with crossings and holder, and sets no master-abort bit', nor anything else
   abbrev pub specialAt : List ℕ → ℕ → Result Route
   specialAt gs holder = gives (record { crossings = length gs; end = Special holder }) im
