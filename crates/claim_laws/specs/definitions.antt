@@ -1,2 +1,4 @@
 pub mod Reach
 pub mod Same
+pub mod Granules
+pub mod Editions

@@ -9,3 +9,4 @@ pub mod Apart
 pub mod Lacked
 pub mod Held
 pub mod ResetBit
+pub mod Proved

@@ -37,6 +37,8 @@ module _ (mask requests : ℕ) (s : State) where
 -- 'For one mask and every list of request sets, a member that keeps requesting is granted within H + 1 grants if high and (H + 1) times
 -- L if low, H and L being the members of each group'
 pub record Fair (mask m : ℕ) : Type 0 where
+  -- while it requests every set gives a grant, so as many grants as sets go by
+  pub every : (s : State) (list : List ℕ) → Keeps m list → length (grants mask s list) ≡ length list
   -- from every state: where as many grants are given, one of them is its own; and so at every place of every list from the first state,
   -- and over the calls
   pub within : (s : State) (list : List ℕ) → Keeps m list → Within (bound mask m) m (grants mask s list)

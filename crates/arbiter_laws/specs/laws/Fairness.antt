@@ -35,6 +35,14 @@ grants-append mask s (requests ∷ before) after =
     (λ k. rw k (ap {B = List ℕ} (λ r. step mask requests s .member ∷ r) (grants-append mask (step mask requests s .after) before after)))
 
 module _ (mask m : ℕ) (hm : m < 10) where
+  -- while a member requests every set gives a grant
+  pub every-set : (list : List ℕ) (s : State) → Keeps m list → length (grants mask s list) ≡ length list
+  unfolding grants
+  every-set [] s keeps = refl
+  every-set (requests ∷ rest) s keeps =
+      rw (grants-one mask requests s rest (is-granted mask requests s m hm (keeps .0)))
+      (let e = every-set rest (step mask requests s .after) (keeps .1) in omega (arith, e))
+
   -- no more grants go to others than the measure says
   pub waits-le : (list : List ℕ) (s : State) → Keeps m list → waits m (grants mask s list) ≤ measure mask s m
   unfolding waits grants

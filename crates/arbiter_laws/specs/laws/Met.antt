@@ -5,7 +5,7 @@ use Prim.Native.Nat.{ℕ, zero, suc, _+_, _-_, _<_}
 use native.Mathlib.Omega.{arith}
 use mathlib.Core.Bool.{true, not}
 use mathlib.Core.List.{[], _∷_}
-use lib.ListN.{length, replicate}
+use lib.ListN.{length, replicate, length-replicate}
 use borrow.Author.Tests.{eq-eqb, ne-eqb, eqb-true}
 use Rattle.arbiter.specs.declared.State.{State}
 use Rattle.arbiter.specs.definitions.Rings.{_has_, none}
@@ -15,7 +15,7 @@ use Rattle.arbiter_laws.specs.definitions.Fair.{runFrom, run, grants, Ke
 use Rattle.arbiter_laws.specs.laws.Granted.{is-granted, to-requester, after-high, after-low}
 use Rattle.arbiter_laws.specs.laws.Measure.{measure, measure-last}
 use Rattle.arbiter_laws.specs.laws.Exact.{falls-one}
-use Rattle.arbiter_laws.specs.laws.Fairness.{grants-one, least-is}
+use Rattle.arbiter_laws.specs.laws.Fairness.{grants-one, least-is, every-set}
 
 all-request : (i : ℕ) → i < 10 → (everybody has i) ≡ true
 all-request i lt = has-not 10 0 i (omega arith) lt ∙ ap not (has-none 0 0 i (omega arith) (omega arith))
@@ -30,10 +30,7 @@ module _ (mask m : ℕ) (hm : m < 10) where
   granted-all s = is-granted mask everybody s m hm (all-request m hm)
 
   length-all : (n : ℕ) (s : State) → length (grants mask s (replicate n everybody)) ≡ n
-  unfolding grants
-  length-all zero s = refl
-  length-all (suc n) s =
-      rw (grants-one mask everybody s (replicate n everybody) (granted-all s)) (ap suc (length-all n (step mask everybody s .after)))
+  length-all n s = every-set mask m hm (replicate n everybody) s (keeps-all n) ∙ length-replicate n everybody
 
   waits-all : (n : ℕ) (s : State) → measure mask s m < n → waits m (grants mask s (replicate n everybody)) ≡ measure mask s m
   unfolding waits

@@ -6,13 +6,14 @@ use lib.ListN.{replicate}
 use Rattle.arbiter_laws.specs.definitions.Fair.{run, grants, Within, Needs, alone, everybody, bound}
 use Rattle.arbiter_laws.specs.definitions.Sharing.{Sharing, Fair}
 use Rattle.arbiter_laws.specs.laws.Granted.{is-granted, to-requester, idle-stays, after-high, after-low}
-use Rattle.arbiter_laws.specs.laws.Fairness.{grants-append, fair, fair-onwards, within-in, within-least, least-high}
+use Rattle.arbiter_laws.specs.laws.Fairness.{grants-append, every-set, fair, fair-onwards, within-in, within-least, least-high}
 use Rattle.arbiter_laws.specs.laws.Met.{met, bound-met}
 use Rattle.arbiter_laws.specs.laws.Called.{no-bit, no-bits, accepted-is, is-accepted, refusal-is, member-is, state-is, stays, first-accepted, calls-fair}
 
 is-fair : (mask m : ℕ) → m < 10 → Fair mask m
 is-fair mask m hm =
     record {
+      every = λ s list. every-set mask m hm list s;
       within = λ s list keeps. fair mask m hm list s keeps;
       among = λ s list keeps few. within-in m (grants mask s list) (bound mask m) (fair mask m hm list s keeps) few;
       onwards = fair-onwards mask m hm;

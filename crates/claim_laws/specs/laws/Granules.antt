@@ -5,18 +5,14 @@ use mathlib.Core.List.{List}
 use Prim.Native.Nat.{ℕ, suc, _+_, _-_, _*_, _/_, _^_, _≤_, _<_}
 use native.Mathlib.Nat.{suc-mul, le-div-iff-mul-le, div-lt-iff-lt-mul}
 use native.Mathlib.Omega.{arith}
-use lib.Dec.{leb}
 use lib.Pow.{pow-pos}
 use Rattle.register_header.specs.declared.Options.{Options}
 use Rattle.register_header.specs.definitions.PciRegs.{IO-BASE, IO-LIMIT, MEMORY-BASE, MEMORY-LIMIT, PREF-MEMORY-BASE, PREF-MEMORY-LIMIT, PREF-BASE-UPPER32, PREF-LIMIT-UPPER32, IO-BASE-UPPER16, IO-LIMIT-UPPER16}
 use Rattle.claim_window.specs.definitions.Range.{within, window}
 use Rattle.claim_window.specs.definitions.Window.{memoryGranule, prefetchableGranule, ioGranule, windowsOf}
 use Rattle.claim_window.specs.definitions.Inside.{inMemory, inPrefetchable, isaCut, inIo, inVgaMemory, inVgaIo, insideMemory, insideIo}
+use Rattle.claim_laws.specs.definitions.Granules.{inGranules, memoryGranules, prefetchableGranules, ioGranules}
 use Rattle.claim_laws.specs.laws.Kept.{leb-by}
-
--- the granule of 2 to the k addresses that holds a is one from `base` to `limit`
-abbrev pub inGranules : ℕ → ℕ → ℕ → ℕ → Bool
-inGranules k base limit a = leb base (a / 2 ^ k) && leb (a / 2 ^ k) limit
 
 -- the two ways, for every width, granule and address
 pub granules : (k base limit a : ℕ) → within (window k base limit) a ≡ inGranules k base limit a
@@ -29,46 +25,32 @@ granules k base limit a =
     (λ h. let l : suc limit * 2 ^ k ≤ a = le-div-iff-mul-le p .0 h in omega arith))
 
 module _ (o : Options) (part : List ℕ) (a : ℕ) where
-  -- the granules of the three windows
-  abbrev pub memoryGranules : Bool
-  memoryGranules = inGranules 20 (memoryGranule part MEMORY-BASE) (memoryGranule part MEMORY-LIMIT) a
-
-  abbrev pub prefetchableGranules : Bool
-  prefetchableGranules =
-      inGranules 20 (prefetchableGranule (o .prefetchable64) part PREF-MEMORY-BASE PREF-BASE-UPPER32)
-      (prefetchableGranule (o .prefetchable64) part PREF-MEMORY-LIMIT PREF-LIMIT-UPPER32) a
-
-  abbrev pub ioGranules : Bool
-  ioGranules =
-      inGranules 12 (ioGranule (o .io32) part IO-BASE IO-BASE-UPPER16) (ioGranule (o .io32) part IO-LIMIT IO-LIMIT-UPPER16) a
-      && not (isaCut (windowsOf o part) a)
-
   -- the memory window
-  pub memory-granules : inMemory (windowsOf o part) a ≡ memoryGranules
+  pub memory-granules : inMemory (windowsOf o part) a ≡ memoryGranules o part a
   unfolding windowsOf
   memory-granules = granules 20 (memoryGranule part MEMORY-BASE) (memoryGranule part MEMORY-LIMIT) a
 
   -- the prefetchable window
-  pub prefetchable-granules : inPrefetchable (windowsOf o part) a ≡ prefetchableGranules
+  pub prefetchable-granules : inPrefetchable (windowsOf o part) a ≡ prefetchableGranules o part a
   unfolding windowsOf
   prefetchable-granules =
       granules 20 (prefetchableGranule (o .prefetchable64) part PREF-MEMORY-BASE PREF-BASE-UPPER32)
       (prefetchableGranule (o .prefetchable64) part PREF-MEMORY-LIMIT PREF-LIMIT-UPPER32) a
 
   -- the I/O window, with what ISA cuts out
-  pub io-granules : inIo (windowsOf o part) a ≡ ioGranules
+  pub io-granules : inIo (windowsOf o part) a ≡ ioGranules o part a
   unfolding windowsOf
   io-granules =
       ap (λ (t : Bool). t && not (isaCut (windowsOf o part) a))
       (granules 12 (ioGranule (o .io32) part IO-BASE IO-BASE-UPPER16) (ioGranule (o .io32) part IO-LIMIT IO-LIMIT-UPPER16) a)
 
   -- what the windows hold of the memory space, either way
-  pub memory-both-ways : insideMemory (windowsOf o part) a ≡ (memoryGranules || (prefetchableGranules || inVgaMemory (windowsOf o part) a))
+  pub memory-both-ways : insideMemory (windowsOf o part) a ≡ (memoryGranules o part a || (prefetchableGranules o part a || inVgaMemory (windowsOf o part) a))
   unfolding insideMemory
   memory-both-ways =
       ap₂ (λ (m p : Bool). m || (p || inVgaMemory (windowsOf o part) a)) memory-granules prefetchable-granules
 
   -- and of the I/O space
-  pub io-both-ways : insideIo (windowsOf o part) a ≡ (ioGranules || inVgaIo (windowsOf o part) a)
+  pub io-both-ways : insideIo (windowsOf o part) a ≡ (ioGranules o part a || inVgaIo (windowsOf o part) a)
   unfolding insideIo
   io-both-ways = ap (λ (t : Bool). t || inVgaIo (windowsOf o part) a) io-granules

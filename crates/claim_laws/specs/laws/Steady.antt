@@ -47,13 +47,13 @@ io-kept w a e =
     kept-both _||_ (kept-two (λ p q. p && not q) k i) (kept-two (λ p q. q) k v)
 
 -- a bridge on its primary bus, and on its secondary bus
-primary-kept : (b : BridgeClaims) (space : Space) (a e : ℕ) → Kept (primaryClaims b space) a e (windowsUntil b space a e)
+pub primary-kept : (b : BridgeClaims) (space : Space) (a e : ℕ) → Kept (primaryClaims b space) a e (windowsUntil b space a e)
 unfolding primaryClaims windowsUntil
 primary-kept b Memory a e = kept-map (λ t. b .memory && t) (memory-kept (b .windows) a e)
 primary-kept b Io a e = kept-map (λ t. b .io && t) (io-kept (b .windows) a e)
 primary-kept b Configuration a e = range-kept (b .buses) a e
 
-secondary-kept : (b : BridgeClaims) (space : Space) (a e : ℕ) → Kept (secondaryClaims b space) a e (windowsUntil b space a e)
+pub secondary-kept : (b : BridgeClaims) (space : Space) (a e : ℕ) → Kept (secondaryClaims b space) a e (windowsUntil b space a e)
 unfolding secondaryClaims windowsUntil
 secondary-kept b Memory a e = kept-map (λ t. b .master && not t) (memory-kept (b .windows) a e)
 secondary-kept b Io a e = kept-map (λ t. b .master && not t) (io-kept (b .windows) a e)

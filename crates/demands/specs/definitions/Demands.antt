@@ -313,7 +313,7 @@ pub record Demand1 : Type 0 where
 -- cycle.
 
 -- 02, E11: 'A rack that mixes them is checked and routed under the same guarantee as before': a node of these racks is a device, a bridge
--- or an older bridge.
+-- or an older bridge. The claim laws over a bridge's options are claim_laws `Editions`.
 
 -- a check that was made on some images and answered so
 pub record CheckedAt (t : Tree) (im : Images) (r : Result Answer) : Type 0 where
