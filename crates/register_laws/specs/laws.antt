@@ -10,3 +10,4 @@ pub mod Exponents
 pub mod Sizes
 pub mod Above
 pub mod Held
+pub mod FalseImages

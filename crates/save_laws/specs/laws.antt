@@ -17,3 +17,5 @@ pub mod OneForm
 pub mod Content
 pub mod Listed
 pub mod Output
+pub mod NodeList
+pub mod RackBytes

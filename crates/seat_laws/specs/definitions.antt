@@ -2,3 +2,4 @@ pub mod Kept
 pub mod Running
 pub mod Denied
 pub mod Before
+pub mod NamedPair

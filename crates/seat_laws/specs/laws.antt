@@ -3,3 +3,4 @@ pub mod Events
 pub mod Files
 pub mod Denied
 pub mod Before
+pub mod NamedPair

@@ -4,24 +4,26 @@ use mathlib.Core.Bool.{Bool, true, false, cond}
 use mathlib.Core.List.{List, [], _∷_, _++_}
 use Prim.Native.Nat.{ℕ, _+_, _^_, _≤_, _<_}
 use lib.Dec.{eqb}
-use lib.ListN.{length, getD}
+use lib.ListN.{length, getD, take}
 use Rattle.rack.specs.declared.Rack.{Rack}
 use Rattle.rack.specs.definitions.Buffer.{overStart}
 use Rattle.rack.specs.definitions.Node.{isBridge, regionIn}
-use Rattle.rack.specs.definitions.Tree.{Tree, host, depth, greatestDepth}
+use Rattle.rack.specs.definitions.Tree.{Tree, host, bridgeCount, deviceCount, depth, greatestDepth}
 use Rattle.rack.specs.definitions.Grow.{tree}
 use Rattle.rack.specs.definitions.Refusal.{rackRefusal, FirstFaultyNode}
 use Rattle.seat.specs.definitions.Grants as seating
-use Rattle.seat.specs.definitions.Grants.{acting, noGrants, namedMissing, grants}
+use Rattle.seat.specs.definitions.Grants.{acting, noGrants, unknownSeat, namedMissing, grants}
 use Rattle.seat_laws.specs.definitions.Kept.{Kept}
 use Rattle.seat_laws.specs.definitions.Running.{cursorAfter}
 use Rattle.seat_laws.specs.definitions.Before.{runBefore, linesBefore}
+use Rattle.seat_laws.specs.definitions.NamedPair.{NamedPair, WithoutPair}
 use Rattle.register_header.specs.definitions.Register.{readRegister}
 use Rattle.register_image.specs.definitions.Image.{Images, Result, view, gives}
 use Rattle.register_image.specs.definitions.Fixed.{lengthsWrong}
 use Rattle.bus_reset.specs.definitions.Agreement.{imageRefusal}
 use Rattle.bus_reset.specs.definitions.Store.{storeNode}
 use Rattle.register_image.specs.definitions.Reset.{resetImages}
+use Rattle.register_laws.specs.definitions.FalseImages.{WrongLength, FixedDiffers, HeldDiffers, FixedRight, HeldRight}
 use Rattle.bus_reset.specs.definitions.Held.{isHeld}
 use Rattle.claim_agent.specs.declared.Space.{Space}
 use Rattle.claim_agent.specs.declared.Space.the-variants as space
@@ -34,13 +36,15 @@ use Rattle.check_search.specs.definitions.Check.{check}
 use Rattle.held_laws.specs.definitions.Others.{otherCheck}
 use Rattle.file_record.specs.declared.Event.{Event}
 use Rattle.file_record.specs.declared.Event.the-variants as event
-use Rattle.file_record.specs.definitions.Events.{eventIn, eventBytes}
+use Rattle.file_record.specs.definitions.Number.{byteIn}
+use Rattle.file_record.specs.definitions.Events.{eventIn, eventUnknown, eventBytes}
 use Rattle.file_record.specs.definitions.Load.{readIn, fileIn, rackAlone}
 use Rattle.file_record.specs.definitions.Start.{startImages}
-use Rattle.file_laws.specs.definitions.Records.{Stands, FirstFaulty, Faultless, FaultySeat}
+use Rattle.file_laws.specs.definitions.Records.{before, Stands, faultAt, FirstFaulty, Faultless, FaultySeat, SoundSeat, WithoutRecord}
 use Rattle.file_save.specs.definitions.Saved.{savedFile}
 use Rattle.save_laws.specs.definitions.After.{Follows}
 use Rattle.save_laws.specs.definitions.Content.{SameContent}
+use Rattle.save_laws.specs.definitions.RackBytes.{SameRecords}
 use Rattle.save_laws.specs.definitions.Listed.{seatRecords, registerNodes, namedPairs, changedNodes, NoRegisters}
 use Rattle.event_run.specs.declared.Answer.{Answer}
 use Rattle.event_run.specs.declared.Answer.the-variants.{Checked}
@@ -59,9 +63,9 @@ use Rattle.arbiter.specs.declared.Arbitration.the-variants as arbitration
 use Rattle.arbiter.specs.definitions.Arbiter as arbiter
 use Rattle.arbiter.specs.definitions.Arbiter.{step, answerOf, arbitrate, refusalOf}
 use Rattle.call_numbers.specs.definitions.Numbers.{eight, zeros, arbitrationNumbers}
-use Rattle.call_numbers.specs.definitions.Called.{refusedCall}
+use Rattle.call_numbers.specs.definitions.Called.{Called, refusedCall}
 use Rattle.call_save.specs.definitions.Save.{saveIn, bufferIn}
-use Rattle.call_file.specs.definitions.Filed.{filed, rackSave, sizes, rackOpen}
+use Rattle.call_file.specs.definitions.Filed.{Filed, filed, rackSave, sizes, rackOpen}
 use Rattle.muzgante.specs.definitions.Called.{repliedCall, endsCall, rackRun, rackCheck, rackWindow, rackReset, rackGrant}
 use Rattle.demand_passed.specs.definitions.OneClaimant.{OneClaimant, OneOther}
 use Rattle.demand_passed.specs.definitions.FirstFault.{FirstFault, FirstOther}
@@ -101,6 +105,50 @@ pub record Seats (b : List ℕ) : Type 0 where
 pub record NamedPairs (rack : Rack) : Type 0 where
   pub wrong : (k : ℕ) → k < 1440 → namedMissing rack k ≡ true → grants rack .wrong ≡ true
   pub right : ((k : ℕ) → k < 1440 → namedMissing rack k ≡ false) → grants rack .wrong ≡ false
+  -- 15: a seat other than 0 is unknown exactly where no pair of it is named
+  pub named : (seat node : ℕ) → grants rack .grant seat node .named ≡ true → NamedPair rack seat node (grants rack .grant seat node .mask)
+  pub names : (seat node mask : ℕ) → NamedPair rack seat node mask → grants rack .grant seat node ≡ record { named = true; mask = mask }
+  pub unknown : (seat : ℕ) → unknownSeat (grants rack) seat ≡ true → WithoutPair rack seat
+  pub without : (seat : ℕ) → WithoutPair rack seat → unknownSeat (grants rack) seat ≡ true
+
+-- 02, E1: 15, 'a seat other than 0 without a record, in a seat event or told to a call'. In any bytes a seat and a node are named together, in
+-- front of record n, exactly where one of the seat records before it that have no fault names them, and with its mask
+pub record UnknownSeats (whole : Bool) (b : List ℕ) : Type 0 where
+  pub named : (n seat node : ℕ) → before b n .grants .grant seat node .named ≡ true
+      → (k : ℕ) × (k < n) × SoundSeat b k seat node (before b n .grants .grant seat node .mask)
+  pub names : (n k seat node mask : ℕ) → k < n → SoundSeat b k seat node mask
+      → before b n .grants .grant seat node ≡ record { named = true; mask = mask }
+  -- so a seat event, kind 10, is 15 exactly where no such record names its seat
+  pub event-unknown : (n : ℕ) → ((j : ℕ) → j < n → faultAt whole b j ≡ 0)
+      → eventUnknown (before b n .grants) (eventIn b (before b n .offset)) ≡ true
+      → (byteIn b (before b n .offset) ≡ 10) × WithoutRecord b n (byteIn b (before b n .offset + 1))
+  pub unknown-event : (n : ℕ) → byteIn b (before b n .offset) ≡ 10 → WithoutRecord b n (byteIn b (before b n .offset + 1))
+      → eventUnknown (before b n .grants) (eventIn b (before b n .offset)) ≡ true
+  -- the same of accepted bytes and all their records, which is what a call is told a seat of
+  pub read-named : readIn whole b .refusal ≡ 0 → (seat node : ℕ) → readIn whole b .grants .grant seat node .named ≡ true
+      → (k : ℕ) × Stands b k × SoundSeat b k seat node (readIn whole b .grants .grant seat node .mask)
+  pub read-names : readIn whole b .refusal ≡ 0 → (k seat node mask : ℕ) → SoundSeat b k seat node mask
+      → readIn whole b .grants .grant seat node ≡ record { named = true; mask = mask }
+  pub unknown : readIn whole b .refusal ≡ 0 → (seat : ℕ) → unknownSeat (readIn whole b .grants) seat ≡ true
+      → WithoutRecord b (length b) seat
+  pub without : readIn whole b .refusal ≡ 0 → (seat : ℕ) → WithoutRecord b (length b) seat
+      → unknownSeat (readIn whole b .grants) seat ≡ true
+
+-- 'a false register image': 11, 12 and 18, in this order, each by the node, byte and bridge that it finds; 0 exactly where it finds none.
+-- rack_reset and rack_open test the lengths alone
+pub record RegisterImages (t : Tree) (im : Images) : Type 0 where
+  pub refused-11 : imageRefusal t im ≡ 11 → WrongLength t im
+  pub refuses-11 : WrongLength t im → imageRefusal t im ≡ 11
+  pub refused-12 : imageRefusal t im ≡ 12 → (WrongLength t im → ⊥) × (i : ℕ) × (at : ℕ) × FixedDiffers t im i at
+  pub refuses-12 : (WrongLength t im → ⊥) → (i at : ℕ) → FixedDiffers t im i at → imageRefusal t im ≡ 12
+  -- 02, E5: 'calls give it straight after 12'
+  pub refused-18 : imageRefusal t im ≡ 18
+      → (WrongLength t im → ⊥) × FixedRight t im × (g : ℕ) × (i : ℕ) × (at : ℕ) × HeldDiffers t im g i at
+  pub refuses-18 : (WrongLength t im → ⊥) → FixedRight t im → (g i at : ℕ) → HeldDiffers t im g i at → imageRefusal t im ≡ 18
+  pub accepted : imageRefusal t im ≡ 0 → (WrongLength t im → ⊥) × FixedRight t im × HeldRight t im
+  pub accepts : (WrongLength t im → ⊥) → FixedRight t im → HeldRight t im → imageRefusal t im ≡ 0
+  pub length-differs : lengthsWrong t im ≡ true → WrongLength t im
+  pub differs-length : WrongLength t im → lengthsWrong t im ≡ true
 
 -- a call over a decoded rack; `field` is 13 where a field that it is given is wrong, `seat` 15 where a seat is unknown, and 0 else
 pub record Order (t : Tree) (g : seating.Grants) (im : Images) (field seat : ℕ) : Type 0 where
@@ -225,6 +273,8 @@ pub record Demand1 : Type 0 where
   pub nodes : (t : Tree) → Nodes t
   pub seats : (b : List ℕ) → Seats b
   pub pairs : (rack : Rack) → NamedPairs rack
+  pub unknown-seats : (whole : Bool) (b : List ℕ) → UnknownSeats whole b
+  pub images : (t : Tree) (im : Images) → RegisterImages t im
   pub order : (t : Tree) (g : seating.Grants) (im : Images) (field seat : ℕ) → Order t g im field seat
   pub reads : (rack : Rack) (im : Images) (i register : ℕ) → Read rack im i register
   pub writes : (rack : Rack) (im : Images) (i register enables put : ℕ) → Write rack im i register enables put
@@ -542,12 +592,16 @@ pub record OneForm (a b : Rack) (im jm : Images) : Type 0 where
   pub same-file : SameContent a b → im ≡ jm → savedFile (tree a) (grants a) im ≡ savedFile (tree b) (grants b) jm
   pub same-content : savedFile (tree a) (grants a) im ≡ savedFile (tree b) (grants b) jm → SameContent a b × (im ≡ jm)
 
--- the content of a C call's rack bytes is the tree and the grants that are read of them: there host memory that is none is 1 to 0, and
--- grants are a set
+-- the content of a C call's rack bytes: host memory, the node records in their order and the set of seat records. In the tree and the grants
+-- that are read of them host memory that is none is 1 to 0, and grants are a set, so these are the same exactly where the content is
 pub record COneForm (b c : List ℕ) (im jm : Images) : Type 0 where
-  pub same-file : rackAlone b .tree ≡ rackAlone c .tree → rackAlone b .grants ≡ rackAlone c .grants → im ≡ jm
+  pub same-file : SameRecords b c → im ≡ jm
       → savedFile (rackAlone b .tree) (rackAlone b .grants) im ≡ savedFile (rackAlone c .tree) (rackAlone c .grants) jm
   pub same-content : savedFile (rackAlone b .tree) (rackAlone b .grants) im ≡ savedFile (rackAlone c .tree) (rackAlone c .grants) jm
+      → SameRecords b c × (im ≡ jm)
+  pub read-file : rackAlone b .tree ≡ rackAlone c .tree → rackAlone b .grants ≡ rackAlone c .grants → im ≡ jm
+      → savedFile (rackAlone b .tree) (rackAlone b .grants) im ≡ savedFile (rackAlone c .tree) (rackAlone c .grants) jm
+  pub read-content : savedFile (rackAlone b .tree) (rackAlone b .grants) im ≡ savedFile (rackAlone c .tree) (rackAlone c .grants) jm
       → (rackAlone b .tree ≡ rackAlone c .tree) × (rackAlone b .grants ≡ rackAlone c .grants) × (im ≡ jm)
 
 -- wherever save_rack or rack_save refuses nothing but a buffer that is too short
@@ -566,3 +620,52 @@ pub record Saves : Type 0 where
       × (outputOf b
       ≡ linesOf (fileIn b .tree) (acting (fileIn b .grants) 0) 1 (resetImages (fileIn b .tree) (blank (fileIn b .tree)))
       (eventsAt b (fileIn b .offset)))
+
+-- the file that rack_save wrote: the bytes of the buffer up to its answer; and the rack bytes of a file that rack_open answers
+abbrev pub writtenFile : Filed → List ℕ
+writtenFile saved = take (getD (saved .numbers) 0 0) (saved .buffer)
+
+abbrev pub openedRack : List ℕ → Called → List ℕ
+openedRack file opened = take (getD (opened .numbers) 0 0) file
+
+-- 02, E2: 'A rack read from the writer's file has the content of the rack it was given', over the C calls: rack_open of what rack_save wrote
+-- of bytes b and images im, with other images lent
+pub record Reopened (b : List ℕ) (im : Images) (file : List ℕ) (lent : Images) : Type 0 where
+  pub accepted : rackOpen file lent .code ≡ 0
+  pub images : rackOpen file lent .after ≡ im
+  pub bridges : getD (rackOpen file lent .numbers) 1 0 ≡ bridgeCount (rackAlone b .tree)
+  pub devices : getD (rackOpen file lent .numbers) 2 0 ≡ deviceCount (rackAlone b .tree)
+  pub rack : rackAlone (openedRack file (rackOpen file lent)) .refusal ≡ 0
+  pub tree : rackAlone (openedRack file (rackOpen file lent)) .tree ≡ rackAlone b .tree
+  pub grants : rackAlone (openedRack file (rackOpen file lent)) .grants ≡ rackAlone b .grants
+  -- and so the content
+  pub content : SameRecords (openedRack file (rackOpen file lent)) b
+
+-- the file of a file's content: its rack, its grants and the registers that a run of it starts from
+abbrev pub contentFile : List ℕ → Images → List ℕ
+contentFile file lent = savedFile (fileIn file .tree) (fileIn file .grants) (startImages file lent)
+
+-- what rack_open gave of a file, with images lent: its rack bytes are accepted and have the tree and the grants of the file, and rack_save
+-- writes the file of this content
+pub record Resaved (file : List ℕ) (lent : Images) (old : List ℕ) : Type 0 where
+  pub rack : rackAlone (openedRack file (rackOpen file lent)) .refusal ≡ 0
+  pub tree : rackAlone (openedRack file (rackOpen file lent)) .tree ≡ fileIn file .tree
+  pub grants : rackAlone (openedRack file (rackOpen file lent)) .grants ≡ fileIn file .grants
+  pub saved : length (contentFile file lent) ≤ length old
+      → rackSave (openedRack file (rackOpen file lent)) (rackOpen file lent .after) old
+      ≡ filed 0 (eight (length (contentFile file lent)) []) (overStart old (contentFile file lent))
+  -- 14,609 bytes are enough
+  pub most : length (contentFile file lent) ≤ 14609
+  -- whatever the lent images held
+  pub whatever : (other : Images) → rackOpen file other .code ≡ 0 → contentFile file other ≡ contentFile file lent
+
+pub record Reopens : Type 0 where
+  -- the bytes of an accepted file before its first register record or event, which rack_open counts, are accepted as rack bytes, and have its
+  -- tree and its grants
+  pub alone : (file : List ℕ) → fileIn file .refusal ≡ 0
+      → (rackAlone (take (fileIn file .registers) file) .refusal ≡ 0)
+      × (rackAlone (take (fileIn file .registers) file) .tree ≡ fileIn file .tree)
+      × (rackAlone (take (fileIn file .registers) file) .grants ≡ fileIn file .grants)
+  pub opened : (b : List ℕ) (im : Images) (old : List ℕ) → rackSave b im old .code ≡ 0
+      → (lent : Images) → lengthsWrong (rackAlone b .tree) lent ≡ false → Reopened b im (writtenFile (rackSave b im old)) lent
+  pub saved : (file : List ℕ) (lent : Images) → rackOpen file lent .code ≡ 0 → (old : List ℕ) → Resaved file lent old

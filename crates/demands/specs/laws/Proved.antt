@@ -13,9 +13,11 @@ use Rattle.rack.specs.laws.Search.{none-all, found-at}
 use Rattle.seat.specs.definitions.Grants.{Grants, acting, namedMissing, grants}
 use Rattle.seat_laws.specs.laws.Files.{run-kept, run-accepted}
 use Rattle.seat_laws.specs.laws.Before.{zero-before, output-before}
+use Rattle.seat_laws.specs.laws.NamedPair as pair
 use Rattle.register_image.specs.definitions.Image.{Images, gives}
 use Rattle.bus_reset.specs.definitions.Agreement.{imageRefusal}
 use Rattle.register_laws.specs.laws.Accepted.{agreed}
+use Rattle.register_laws.specs.laws.FalseImages as images
 use Rattle.claim_laws.specs.laws.Held.{asked, held-claims}
 use Rattle.claim_laws.specs.laws.ResetBit.{reset-claims}
 use Rattle.claim_agent.specs.declared.Space.{Space}
@@ -29,6 +31,9 @@ use Rattle.print_file.specs.definitions.Output.{firstAt}
 use Rattle.file_record.specs.laws.Turns.{read-over, read-empty}
 use Rattle.file_laws.specs.laws.Refused as file
 use Rattle.file_laws.specs.laws.Seats as seats
+use Rattle.file_laws.specs.laws.Named as named
+use Rattle.file_laws.specs.laws.Alone.{file-rack}
+use Rattle.file_save.specs.definitions.Saved.{savedFile}
 use Rattle.file_save.specs.laws.Length.{saved-most}
 use Rattle.save_laws.specs.definitions.Said.{Savable}
 use Rattle.save_laws.specs.definitions.Content.{Sound}
@@ -36,7 +41,8 @@ use Rattle.save_laws.specs.laws.ReadBack.{file-alone}
 use Rattle.save_laws.specs.laws.Start.{start-saved}
 use Rattle.save_laws.specs.laws.Agreed.{start-accepted}
 use Rattle.save_laws.specs.laws.Decoded.{rack-savable}
-use Rattle.save_laws.specs.laws.Loaded.{alone-savable}
+use Rattle.save_laws.specs.definitions.RackBytes.{SameRecords}
+use Rattle.save_laws.specs.laws.RackBytes.{records-tree, records-grants, same-records}
 use Rattle.save_laws.specs.laws.OneForm.{one-form}
 use Rattle.save_laws.specs.laws.Content.{content-file, file-content}
 use Rattle.save_laws.specs.laws.Listed.{seats-listed, nodes-listed}
@@ -69,8 +75,9 @@ use Rattle.demand_calls.specs.laws.CGoing as c-going
 use Rattle.demand_calls.specs.laws.CLater as c-later
 use Rattle.demand_calls.specs.laws.CSpecial as c-special
 use Rattle.demand_calls.specs.definitions.CCalls as c
+use Rattle.demands.specs.laws.Reopened.{c-savable, reopened, resaved}
 use Rattle.demands.specs.definitions.Demands as demands
-use Rattle.demands.specs.definitions.Demands.{Demand1, Demand3, SeatsKeep, Agrees, BusResets, AsBefore, Saves}
+use Rattle.demands.specs.definitions.Demands.{Demand1, Demand3, SeatsKeep, Agrees, BusResets, AsBefore, Saves, Reopens}
 
 bytes : (whole : Bool) (b : List ℕ) → demands.Bytes whole b
 bytes whole b =
@@ -111,6 +118,34 @@ demand1 =
           record {
             wrong = λ k h e. found-at (namedMissing rack) 1440 k h e;
             right = λ h. none-all (namedMissing rack) 1440 h;
+            named = pair.named-pair rack;
+            names = pair.pair-named rack;
+            unknown = pair.unknown-pair rack;
+            without = pair.pair-unknown rack;
+          };
+      unknown-seats = λ whole b.
+          record {
+            named = named.named-by b;
+            names = named.names b;
+            event-unknown = named.event-unknown whole b;
+            unknown-event = named.unknown-event whole b;
+            read-named = named.read-named whole b;
+            read-names = named.read-names whole b;
+            unknown = named.read-unknown whole b;
+            without = named.unknown-read whole b;
+          };
+      images = λ t im.
+          record {
+            refused-11 = images.refused-11 t im;
+            refuses-11 = images.refuses-11 t im;
+            refused-12 = images.refused-12 t im;
+            refuses-12 = images.refuses-12 t im;
+            refused-18 = images.refused-18 t im;
+            refuses-18 = images.refuses-18 t im;
+            accepted = images.accepted t im;
+            accepts = images.accepts t im;
+            length-differs = images.length-differs t im;
+            differs-length = images.differs-length t im;
           };
       order = λ t g im field seat.
           record {
@@ -322,11 +357,28 @@ sound rack im z =
     (record { nodes = a .0; seats = a .3 }, a .1)
 
 -- and rack bytes
-c-savable : (b : List ℕ) (im : Images) → rackAlone b .refusal ≡ 0 → refusalBy (rackAlone b .tree) (rackAlone b .grants) im 0 0 ≡ 0
-    → Savable (rackAlone b .tree) (rackAlone b .grants) im
-c-savable b im ok z =
-    let a = refusing.accepted (rackAlone b .tree) (rackAlone b .grants) im 0 0 z in
-    alone-savable b im ok (a .3) (a .1)
+module _ (b c : List ℕ) (ok : rackAlone b .refusal ≡ 0) (fine : rackAlone c .refusal ≡ 0) (im jm : Images)
+    (z : refusalBy (rackAlone b .tree) (rackAlone b .grants) im 0 0 ≡ 0)
+    (y : refusalBy (rackAlone c .tree) (rackAlone c .grants) jm 0 0 ≡ 0) where
+  read-one : savedFile (rackAlone b .tree) (rackAlone b .grants) im ≡ savedFile (rackAlone c .tree) (rackAlone c .grants) jm
+      → (rackAlone b .tree ≡ rackAlone c .tree) × (rackAlone b .grants ≡ rackAlone c .grants) × (im ≡ jm)
+  read-one =
+      one-form (rackAlone b .tree) (rackAlone c .tree) (rackAlone b .grants) (rackAlone c .grants) im jm (c-savable b im ok z)
+      (c-savable c jm fine y)
+
+  right : rackAlone b .grants .wrong ≡ false
+  right = refusing.accepted (rackAlone b .tree) (rackAlone b .grants) im 0 0 z .3
+
+  fair : rackAlone c .grants .wrong ≡ false
+  fair = refusing.accepted (rackAlone c .tree) (rackAlone c .grants) jm 0 0 y .3
+
+  records-file : SameRecords b c → im ≡ jm
+      → savedFile (rackAlone b .tree) (rackAlone b .grants) im ≡ savedFile (rackAlone c .tree) (rackAlone c .grants) jm
+  records-file s i = rw (records-tree b c ok fine right fair s, records-grants b c ok fine right fair s, i)
+
+  file-records : savedFile (rackAlone b .tree) (rackAlone b .grants) im ≡ savedFile (rackAlone c .tree) (rackAlone c .grants) jm
+      → SameRecords b c × (im ≡ jm)
+  file-records e = let o = read-one e in (same-records b c ok fine right fair (o .0) (o .1), o .2)
 
 pub saves : Saves
 saves =
@@ -344,10 +396,18 @@ saves =
           };
       c-one-form = λ b c im jm ok fine z y.
           record {
-            same-file = λ t g i. rw (t, g, i);
-            same-content =
-                one-form (rackAlone b .tree) (rackAlone c .tree) (rackAlone b .grants) (rackAlone c .grants) im jm (c-savable b im ok z)
-                (c-savable c jm fine y);
+            same-file = records-file b c ok fine im jm z y;
+            same-content = file-records b c ok fine im jm z y;
+            read-file = λ t g i. rw (t, g, i);
+            read-content = read-one b c ok fine im jm z y;
           };
       from-reset = λ b ok none. let e = none-registers b ok none in (start-reset b e, output-reset b e ok);
+    }
+
+pub reopens : Reopens
+reopens =
+    record {
+      alone = λ file ok. let r = file-rack file ok in (r .accepted, r .tree, r .grants);
+      opened = reopened;
+      saved = resaved;
     }

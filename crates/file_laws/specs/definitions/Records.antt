@@ -2,12 +2,12 @@
 -- first faulty record. Of a record see file_record `Load.recordFaults`, and rack_laws `First.list-given`, `list-gives`.
 use mathlib.Core.Path.{_≡_}
 use Prim.Native.Nat.{ℕ, zero, suc, _<_}
-use mathlib.Core.Bool.{Bool, true}
+use mathlib.Core.Bool.{Bool, true, false}
 use mathlib.Core.List.{List}
 use lib.ListN.{length}
 use Rattle.rack.specs.definitions.First.{First}
 use Rattle.file_record.specs.declared.Class.the-variants as class
-use Rattle.file_record.specs.definitions.Record.{classIn, isA}
+use Rattle.file_record.specs.definitions.Record.{classIn, isA, seatIn}
 use Rattle.file_record.specs.definitions.Load.{Reading, atStart, isFaulty, recordFault, taken}
 
 -- what is known in front of record k, the first being record 0: each record begins where the one before it ends
@@ -38,3 +38,15 @@ abbrev pub FaultySeat : List ℕ → ℕ → Type 0
 FaultySeat b k =
     (isA class.Seat (classIn b (before b k .offset)) ≡ true)
     × (isFaulty b (before b k .offset) (before b k .tree) (before b k .grants) ≡ true)
+
+-- record k is a seat record without such a fault: it names a seat and a node together, and says the mask
+pub record SoundSeat (b : List ℕ) (k seat node mask : ℕ) : Type 0 where
+  pub is-seat : isA class.Seat (classIn b (before b k .offset)) ≡ true
+  pub sound : isFaulty b (before b k .offset) (before b k .tree) (before b k .grants) ≡ false
+  pub says : seatIn b (before b k .offset) ≡ record { seat = seat; node = node; mask = mask }
+
+-- 15: 'a seat other than 0 without a record': no record before record n is one that names it. Of all records of the bytes n is their
+-- length
+pub record WithoutRecord (b : List ℕ) (n seat : ℕ) : Type 0 where
+  pub other : seat ≡ 0 → ⊥
+  pub none : (k node mask : ℕ) → k < n → SoundSeat b k seat node mask → ⊥

@@ -12,18 +12,18 @@ use borrow.Author.Tests.{ltb-true, ltb-false, eqb-true, eqb-false, eq-eqb, ne-eq
 use Rattle.rack.specs.laws.Bools.{tested}
 use Rattle.rack.specs.definitions.First.{_or_}
 use Rattle.rack.specs.laws.FirstLaws.{when-not}
-use Rattle.rack_laws.specs.laws.First.{list-none-given}
 use Rattle.file_record.specs.declared.Class.{Class}
 use Rattle.file_record.specs.declared.Class.the-variants as class
 use Rattle.file_record.specs.definitions.Number.{byteIn}
 use Rattle.file_record.specs.definitions.Record.{sizeOf, classIn, isA, isRack, isKnown}
 use Rattle.file_record.specs.definitions.Events.{eventIn, eventWrong, eventUnknown}
-use Rattle.file_record.specs.definitions.Load.{Reading, followsLater, shapeFaults, shapeFault, recordFault, taken, Loading, fileIn}
+use Rattle.file_record.specs.definitions.Load.{Reading, recordFault, taken, Loading, fileIn}
 use Rattle.file_record.specs.laws.Steps.{is-a, shape-known}
 use Rattle.file_record.specs.laws.LoadLaws.{none-applies, first-host}
 use Rattle.file_laws.specs.definitions.Records.{before, Stands}
 use Rattle.file_laws.specs.laws.Refused.{at-later, faultless}
 use Rattle.file_laws.specs.laws.Seats.{ended}
+use Rattle.file_laws.specs.laws.Shape.{shape, in-place}
 
 -- the record in front of which a reading stands is an event
 abbrev atEvent : List ℕ → Reading → Type 0
@@ -57,15 +57,10 @@ module _ (b : List ℕ) (s : Reading) where
 
     -- and is one where it follows one
     after-events : (s .events ≡ 0 → ⊥) → atEvent b s
-    unfolding shapeFault
     after-events n =
         let c = classIn b (s .offset) in
-        let shape = none-applies true b s z 0 (lit< tt) in
-        let follows =
-        when-not 5 (followsLater c (s .registers) (s .events)) (λ e. omega (arith, e))
-        (list-none-given (shapeFaults true b c (s .offset) (s .registers) (s .events)) shape 3 (lit< tt)) in
-        left c (shape-known true b c (s .offset) (s .registers) (s .events) shape)
-        (rw (ne-eqb (s .events) 0 n, and-false (eqb (s .registers) 0)) at follows)
+        left c (shape-known true b c (s .offset) (s .registers) (s .events) (shape b s z))
+        (rw (ne-eqb (s .events) 0 n, and-false (eqb (s .registers) 0)) at (in-place b s z))
       where
         left : (c : Class) → isKnown true c ≡ true → isRack c && true || isA class.Registers c && true ≡ false → isA class.Event c ≡ true
         left class.Unknown k f = absurd (false≢true k)

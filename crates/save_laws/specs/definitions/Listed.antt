@@ -1,17 +1,19 @@
--- The seat records and register records that a file has, and those that a saved file is to have. Sentences are those of document 02, E2.
+-- The node records, seat records and register records that a file has, and those that a saved file is to have. Sentences are those of
+-- document 02, E2.
 use Prim.Native.Nat.{ℕ, zero, suc, _+_}
 use mathlib.Core.Path.{_≡_}
 use mathlib.Core.Bool.{Bool, false, cond}
 use mathlib.Core.List.{List, [], _∷_, _++_}
 use lib.Dec.{leb}
 use lib.ListN.{length}
+use Rattle.rack.specs.declared.Node.{Node}
 use Rattle.rack.specs.definitions.Tree.{Tree}
 use Rattle.seat.specs.declared.SeatRecord.{SeatRecord}
 use Rattle.seat.specs.definitions.Grants.{Grants}
 use Rattle.register_image.specs.definitions.Image.{Images}
 use Rattle.file_record.specs.declared.Class.the-variants as class
 use Rattle.file_record.specs.definitions.Number.{byteIn}
-use Rattle.file_record.specs.definitions.Record.{sizeOf, classIn, isA, seatIn}
+use Rattle.file_record.specs.definitions.Record.{sizeOf, classIn, isA, nodeIn, seatIn}
 use Rattle.file_laws.specs.definitions.Records.{before, Stands}
 use Rattle.file_save.specs.definitions.Saved.{each}
 use Rattle.save_laws.specs.definitions.After.{isSaved}
@@ -25,7 +27,10 @@ eachRecord f (suc left) b o = cond (leb (length b) o) [] (f o ++ eachRecord f le
 abbrev pub only : {A : Type 0} → Bool → A → List A
 only b x = cond b (x ∷ []) []
 
--- the seat records of a file, and the nodes of its register records, in the order in which they stand
+-- the node records of a file, its seat records, and the nodes of its register records, in the order in which they stand
+abbrev pub nodeRecords : List ℕ → List Node
+nodeRecords b = eachRecord (λ o. only (isA class.Node (classIn b o)) (nodeIn b o)) (length b) b 0
+
 abbrev pub seatRecords : List ℕ → List SeatRecord
 seatRecords b = eachRecord (λ o. only (isA class.Seat (classIn b o)) (seatIn b o)) (length b) b 0
 

@@ -36,7 +36,7 @@ use Rattle.file_record.specs.laws.Steps.{is-a, shape-known, shape-ends}
 use Rattle.file_record.specs.laws.Turns.{in-has}
 use Rattle.file_record.specs.laws.LoadLaws.{none-applies, first-host, file-accepted, file-stored}
 use Rattle.save_laws.specs.laws.Earlier.{resets-none, set-none, resets-more, set-more, found-earlier}
-use Rattle.save_laws.specs.laws.Events.{shape, in-place}
+use Rattle.file_laws.specs.laws.Shape.{shape, in-place}
 
 module _ (b : List ℕ) (t : Tree) (start : ℕ) (im : Images) where
   -- the images that the register records from `start` up to an offset leave

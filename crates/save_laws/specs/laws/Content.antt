@@ -27,11 +27,11 @@ use Rattle.save_laws.specs.laws.Decoded.{tree-with, tree-said, grants-sa
 use Rattle.save_laws.specs.laws.OneForm.{one-form}
 
 -- host memory
-memory-from : (h k : Range) → SameMemory h k → memoryOf h ≡ memoryOf k
+pub memory-from : (h k : Range) → SameMemory h k → memoryOf h ≡ memoryOf k
 memory-from h k (inl e) = rw (e .0, e .1)
 memory-from h k (inr e) = rw (lt-ltb (h .last) (h .first) (e .0), lt-ltb (k .last) (k .first) (e .1))
 
-memory-to : (h k : Range) → memoryOf h ≡ memoryOf k → SameMemory h k
+pub memory-to : (h k : Range) → memoryOf h ≡ memoryOf k → SameMemory h k
 memory-to h k e =
     tested (ltb (h .last) (h .first))
     (λ p.

@@ -5,22 +5,22 @@ use mathlib.Core.Logic.{_⊎_, inl, inr, ⊎-elim}
 use mathlib.Core.List.{List, _++_}
 use Prim.Native.Nat.{ℕ, _+_, _<_}
 use native.Mathlib.Omega.{arith}
-use lib.Dec.{eqb, lit<}
+use lib.Dec.{eqb}
 use lib.ListN.{length, length-append}
 use borrow.Author.Tests.{ne-eqb}
 use Rattle.rack.specs.definitions.First.{_or_}
 use Rattle.rack.specs.definitions.Tree.{Tree}
-use Rattle.rack.specs.laws.FirstLaws.{when-not}
-use Rattle.rack_laws.specs.laws.First.{at, list-none-given}
+use Rattle.rack_laws.specs.laws.First.{at}
 use Rattle.seat.specs.definitions.Grants.{Grants}
 use Rattle.register_image.specs.definitions.Image.{Images}
 use Rattle.file_record.specs.declared.Class.{Class}
 use Rattle.file_record.specs.declared.Class.the-variants as class
 use Rattle.file_record.specs.definitions.Record.{formOf, classIn, isKnown}
-use Rattle.file_record.specs.definitions.Load.{Reading, followsLater, shapeFaults, shapeFault, recordFault, taken, loaded, fileIn}
+use Rattle.file_record.specs.definitions.Load.{Reading, followsLater, recordFault, taken, loaded, fileIn}
 use Rattle.file_record.specs.laws.Steps.{is-a, shape-known}
 use Rattle.file_record.specs.laws.Turns.{read-all, read-has}
-use Rattle.file_record.specs.laws.LoadLaws.{none-applies, read-long, read-some}
+use Rattle.file_record.specs.laws.LoadLaws.{read-long, read-some}
+use Rattle.file_laws.specs.laws.Shape.{shape, in-place}
 use Rattle.file_save.specs.definitions.Saved.{savedFile}
 use Rattle.save_laws.specs.definitions.Said.{Savable}
 use Rattle.save_laws.specs.definitions.After.{Follows, registersAt, firstRegisters, afterSaved, savedLoading}
@@ -38,19 +38,10 @@ after-event class.Registers registers events n f k = absurd (true≢false (rw (n
 after-event class.Event registers events n f k = refl
 
 module _ (b : List ℕ) (x : Reading) (z : recordFault true b x ≡ 0) where
-  pub shape : shapeFault true b (classIn b (x .offset)) (x .offset) (x .registers) (x .events) ≡ 0
-  shape = none-applies true b x z 0 (lit< tt)
-
-  pub in-place : followsLater (classIn b (x .offset)) (x .registers) (x .events) ≡ false
-  unfolding shapeFault
-  in-place =
-      when-not 5 _ (λ e. omega (arith, e))
-      (list-none-given (shapeFaults true b (classIn b (x .offset)) (x .offset) (x .registers) (x .events)) shape 3 (lit< tt))
-
   later-event : (x .events ≡ 0 → ⊥) → classIn b (x .offset) ≡ class.Event
   later-event n =
-      after-event (classIn b (x .offset)) (x .registers) (x .events) n in-place
-      (shape-known true b (classIn b (x .offset)) (x .offset) (x .registers) (x .events) shape)
+      after-event (classIn b (x .offset)) (x .registers) (x .events) n (in-place b x z)
+      (shape-known true b (classIn b (x .offset)) (x .offset) (x .registers) (x .events) (shape b x z))
 
 -- an event taken in
 event-taken : (b : List ℕ) (x : Reading) → classIn b (x .offset) ≡ class.Event

@@ -63,13 +63,14 @@ record Saying (s : Reading) : Type 0 where
   pairs : Pairs (s .tree .count) (s .grants)
   none : s .offset ≡ 0 → s .grants ≡ noGrants
 
-module _ (whole : Bool) (b : List ℕ) (s : Reading) (p : Saying s) (z : recordFault whole b s ≡ 0) where
-  -- a host stands at the start
-  host-first : isA class.Host (classIn b (s .offset)) ≡ true → s .offset ≡ 0
-  host-first k =
-      let h = shape-host whole b (classIn b (s .offset)) (s .offset) (s .registers) (s .events) (none-applies whole b s z 0 (lit< tt)) in
-      tested (eqb (s .offset) 0) (λ q. eqb-true (s .offset) 0 q) (λ q. absurd (true≢false (sym k ∙ (rw q at h))))
+-- a host stands at the start
+pub host-first : (whole : Bool) (b : List ℕ) (s : Reading) → recordFault whole b s ≡ 0 → isA class.Host (classIn b (s .offset)) ≡ true
+    → s .offset ≡ 0
+host-first whole b s z k =
+    let h = shape-host whole b (classIn b (s .offset)) (s .offset) (s .registers) (s .events) (none-applies whole b s z 0 (lit< tt)) in
+    tested (eqb (s .offset) 0) (λ q. eqb-true (s .offset) 0 q) (λ q. absurd (true≢false (sym k ∙ (rw q at h))))
 
+module _ (whole : Bool) (b : List ℕ) (s : Reading) (p : Saying s) (z : recordFault whole b s ≡ 0) where
   taken-tree : SaidTree (taken b s .tree)
   unfolding taken
   taken-tree =
@@ -83,7 +84,7 @@ module _ (whole : Bool) (b : List ℕ) (s : Reading) (p : Saying s) (z : recordF
   taken-pairs =
       tested (isA class.Host (classIn b (s .offset)))
       (λ k.
-      let g = p .none (host-first k) in
+      let g = p .none (host-first whole b s z k) in
       rw (is-a class.Host (classIn b (s .offset)) k, g) (none-pairs 0))
       (λ k.
       tested (isA class.Node (classIn b (s .offset)))

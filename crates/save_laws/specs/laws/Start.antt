@@ -24,6 +24,7 @@ use Rattle.file_record.specs.definitions.Number.{byteIn}
 use Rattle.file_record.specs.definitions.Record.{registersIn}
 use Rattle.file_record.specs.definitions.Load.{fileIn}
 use Rattle.file_record.specs.definitions.Start.{setFrom, startFrom, startImages}
+use Rattle.file_record.specs.laws.LoadLaws.{file-stored}
 use Rattle.file_save.specs.definitions.Saved.{each, registerBytes, savedFile}
 use Rattle.save_laws.specs.definitions.Said.{Savable}
 use Rattle.save_laws.specs.definitions.After.{Follows, isSaved, registersAt, savedLoading}
@@ -31,6 +32,7 @@ use Rattle.save_laws.specs.laws.Here.{Here, here-byte, here-registers, h
 use Rattle.save_laws.specs.laws.ReadBack.{file-alone, savable-stored, end-is, registers-here}
 use Rattle.save_laws.specs.laws.Events.{file-back}
 use Rattle.save_laws.specs.laws.Views.{images-same}
+use Rattle.save_laws.specs.laws.Loaded.{file-tree}
 
 module _ (t : Tree) (im : Images) (by : StoredBy t) (stored : Stored t) (right : lengthsWrong t im ≡ false) where
   -- images in which the nodes below i have the registers of im, and all others are at reset
@@ -156,3 +158,13 @@ module _ (t : Tree) (g : Grants) (im : Images) (s : Savable t g im) (old : Image
 
   pub start-saved : length (savedFile t g im) ≤ 65536 → startImages (savedFile t g im) old ≡ im
   start-saved l = rw (file-alone t g im s l) start-alone
+
+-- what the lent images held before plays no part
+pub start-same : (b : List ℕ) → fileIn b .refusal ≡ 0 → (im jm : Images) → lengthsWrong (fileIn b .tree) im ≡ false
+    → lengthsWrong (fileIn b .tree) jm ≡ false → startImages b im ≡ startImages b jm
+start-same b ok im jm l m =
+    let t = fileIn b .tree in
+    let stored = file-stored b ok in
+    ap (setFrom (length b) b t (fileIn b .offset) (fileIn b .registers))
+    (images-same t (file-tree b .stored) (resetImages t im) (resetImages t jm) (reset-right t stored im l) (reset-right t stored jm m)
+    (λ i h. reset-view t stored im l i h ∙ sym (reset-view t stored jm m i h)))
