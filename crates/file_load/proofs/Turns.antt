@@ -1,10 +1,10 @@
--- Bit 6 in the register records before one, and the loops that look for it: what is left to look at decides.
+-- Tests of a record; bit 6 in the register records before one, and the loops that look for it: what is left to look at decides.
 use mathlib.Core.Path.{_≡_, refl, sym, ap, _∙_}
 use mathlib.Core.Bool.{Bool, true, false, not, _&&_, _||_}
 use mathlib.Core.List.{List}
 use Prim.Native.Nat.{ℕ, zero, suc, _+_, _≤_, _<_}
 use native.Mathlib.Omega.{arith}
-use lib.Dec.{eqb}
+use lib.Dec.{leb, ltb, eqb}
 use lib.ListN.{length, getD}
 use borrow.Author.Tests.{lt-ltb, le-ltb}
 use Rattle.rack.specs.declared.Node.{Node}
@@ -17,15 +17,25 @@ use Rattle.register_image.specs.definitions.Fixed.{partWrong}
 use Rattle.register_image.specs.definitions.Reset.{isChanged}
 use Rattle.bus_reset.specs.laws.WayUp.{NoneAbove, above-start}
 use Rattle.file_record.specs.definitions.Number.{byteIn}
-use Rattle.file_record.specs.definitions.Record.{registersIn}
-use Rattle.file_record.specs.definitions.Load.{unsound, resetsAt, recordResets}
+use Rattle.file_record.specs.declared.Class.{Class}
+use Rattle.file_record.specs.declared.Class.the-variants as class
+use Rattle.file_record.specs.definitions.Record.{isA, isRack, registersIn}
+use Rattle.file_record.specs.definitions.Load.{followsLater, misplaced, unsound, resetsAt, recordResets}
 use Rattle.file_record.specs.laws.LoadLaws.{or-most}
 
 -- register records begin at or before one of them
 pub first-low : (registers o : ℕ) {k : ℕ} → k ≡ registers or o → registers ≤ o → k ≤ o
 first-low registers o e h = rw e (or-most registers o h (omega arith))
 
--- 17 of a record, and its bit 6
+-- 5, 16 and 17 of a record, and its bit 6
+pub later-read : (c : Class) (registers events : ℕ) {rack holds : Bool} → rack ≡ isRack c → holds ≡ isA class.Registers c
+    → (rack && not (eqb registers 0 && eqb events 0) || holds && not (eqb events 0)) ≡ followsLater c registers events
+later-read c registers events r h = rw (r, h)
+
+pub place-read : (b : List ℕ) (t : Tree) (o least : ℕ) {node count : ℕ} → node ≡ byteIn b (o + 1) → count ≡ t .count
+    → (leb count node || ltb node least) ≡ misplaced b o t least
+place-read b t o least n c = rw (n, c)
+
 pub value-read : (b table : List ℕ) (o : ℕ) {i : ℕ} {n : Node} {part : List ℕ} {changed wrong : Bool} → i ≡ byteIn b (o + 1)
     → n ≡ nodeAt table i → (part ≡ registersIn b o) × (length part ≡ 64) → changed ≡ isChanged n part → wrong ≡ partWrong n part
     → not changed || wrong ≡ unsound (nodeAt table (byteIn b (o + 1))) (registersIn b o)

@@ -1,4 +1,5 @@
 use borrow.Author.Needs.{needs}
+use Rattle.file_load.proofs.Turns.{later-read}
 use Rattle.file_load.proofs.follows_later.Statement.{statement}
 use Rattle.file_load.proofs.follows_later.Tie as tie
 
@@ -9,7 +10,7 @@ is-a-requires : tie.Need-is-a-requires
 is-a-requires c κs = search needs
 
 returns : tie.Need-returns
-returns c = cc
+returns c = search (later-read, needs)
 
 pub follows-later-spec : {M : Type 1} → statement M
 follows-later-spec = tie.close (tie.spec is-rack-requires is-a-requires returns)

@@ -1,4 +1,5 @@
 use borrow.Author.Needs.{needs}
+use Rattle.file_load.proofs.Turns.{place-read}
 use Rattle.file_load.proofs.misplaced.Statement.{statement}
 use Rattle.file_load.proofs.misplaced.Tie as tie
 
@@ -15,7 +16,7 @@ cast-result : tie.Need-cast-result
 cast-result c = search needs
 
 returns : tie.Need-returns
-returns c = cc
+returns c = search (place-read, needs)
 
 pub misplaced-spec : {M : Type 1} → statement M
 misplaced-spec =
