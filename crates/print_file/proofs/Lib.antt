@@ -1,4 +1,5 @@
 -- What the functions' proofs use.
+mod First
 mod Pasted
 mod Ran
 mod Turns

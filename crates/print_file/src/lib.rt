@@ -2,6 +2,7 @@
 
 pub mod fill;
 mod line;
+pub mod refused;
 pub mod start;
 
 // The next event of a file: its offset, its number, which counts from 1, and the seat that acts.

@@ -1,5 +1,6 @@
 -- The end of a run is the same from each place on the way to it.
 use mathlib.Core.Path.{_≡_, refl, sym, ap, _∙_}
+use mathlib.Core.Bool.{true, false≢true}
 use mathlib.Core.List.{List}
 use Prim.Native.Nat.{ℕ, zero, suc, _+_, _-_, _≤_, _<_}
 use native.Mathlib.Omega.{arith}
@@ -11,23 +12,15 @@ use Rattle.rack.specs.definitions.Tree.{Tree}
 use Rattle.seat.specs.definitions.Grants.{Grants}
 use Rattle.register_image.specs.definitions.Image.{Images}
 use Rattle.file_record.specs.definitions.Number.{byteIn}
-use Rattle.file_record.specs.definitions.Start.{startFrom}
 use Rattle.file_record.specs.laws.RecordLaws.{size-least}
 use Rattle.print_file.specs.declared.Cursor.{Cursor}
-use Rattle.print_file.specs.declared.Filled.{Filled}
-use Rattle.print_file.specs.definitions.Output.{firstAt}
-use Rattle.print_file.specs.definitions.Filling.{Part, past, ranAt, lineAt, ends, partUpTo, partOf}
-use Rattle.print_file.specs.definitions.Fills.{Fills}
-use Rattle.print_file.specs.laws.FillingLaws.{on, part-stop, part-step, progress, counted}
-use Rattle.rackrun.specs.declared.Printed.{Printed}
-use Rattle.rackrun.specs.declared.Printed.the-variants.{UpTo}
+use Rattle.print_file.specs.definitions.Filling.{Part, past, ranAt, lineAt, ends, partUpTo}
 use Rattle.print_file.specs.definitions.Place.{Place, place, afterPart, endUpTo, endOf}
-use Rattle.rackrun.specs.definitions.Run.{runEnd, Accepted, Prints}
-
--- a filled part that is written is printed
-pub part-printed : (t : Tree) (g : Grants) (b : List ℕ) (room : ℕ) (at : Cursor) (im₀ : Images) {r : Filled} {old new : List ℕ} {im : Images}
-    → Fills r old new im (partOf t g b room at im₀) → 65536 ≡ room → Prints (UpTo (r .next)) im (afterPart (partOf t g b 65536 at im₀))
-part-printed t g b room at im₀ f e = rw (e, f .next, f .after)
+use Rattle.print_file.specs.laws.FillingLaws.{on, part-stop, part-step}
+use Rattle.print_output.specs.declared.Rest.{Rest}
+use Rattle.print_output.specs.declared.Rest.the-variants.{Refused, Events, Nothing}
+use Rattle.print_output.specs.definitions.Rest.{standing, isDone, atPlace, endFrom}
+use Rattle.print_output.specs.definitions.Piece.{pieceOf}
 
 module _ (t : Tree) (g : Grants) (b : List ℕ) where
   -- at the file's end
@@ -65,48 +58,31 @@ module _ (t : Tree) (g : Grants) (b : List ℕ) where
       end-enough (length b) (suc (length b)) at im (omega arith) (omega arith) ∙ end-step (length b) at im h
 
   -- from where a place is
-  abbrev endFrom : Place → Place
-  endFrom p = endOf t g b (p .next) (p .before)
+  abbrev endAt : Place → Place
+  endAt p = endOf t g b (p .next) (p .before)
 
-  part-end : (left room : ℕ) (at : Cursor) (im : Images) → endOf t g b at im ≡ endFrom (afterPart (partUpTo left t g b room at im))
+  part-end : (left room : ℕ) (at : Cursor) (im : Images) → endOf t g b at im ≡ endAt (afterPart (partUpTo left t g b room at im))
   unfolding partUpTo
   part-end zero room at im = refl
   part-end (suc left) room at im =
       tested (ends b room at)
-      (λ e. ap (λ (p : Part). endFrom (afterPart p)) (sym (part-stop t g b (suc left) room at im e)))
+      (λ e. ap (λ (p : Part). endAt (afterPart p)) (sym (part-stop t g b (suc left) room at im e)))
       (λ e.
       end-first at im (on b room at e .0)
       ∙ part-end left (room - length (lineAt t g b at im)) (past b at) (ranAt t g b at im .after)
-      ∙ ap (λ (p : Part). endFrom (afterPart p)) (sym (part-step t g b left room at im e)))
+      ∙ ap (λ (p : Part). endAt (afterPart p)) (sym (part-step t g b left room at im e)))
 
-module _ (t : Tree) (g : Grants) (b : List ℕ) (at : Cursor) (im₀ : Images) where
-  -- the run ends where it does from `next` on, and there are no more events than bytes so far
-  pub record Left (next : Cursor) (im : Images) : Type 0 where
-    pub same : endOf t g b at im₀ ≡ endOf t g b next im
-    pub counted : next .number ≤ next .offset + 1
+  -- a part of the output leads to the same end
+  pub piece-end : (room : ℕ) (rest : Rest) (im : Images)
+      → endFrom t g b rest im ≡ endFrom t g b (pieceOf t g b room rest im .rest) (pieceOf t g b room rest im .after)
+  unfolding pieceOf endFrom
+  piece-end room (Refused number offset) im = refl
+  piece-end room (Events at) im = ap atPlace (part-end (length b) room at im)
+  piece-end room Nothing im = refl
 
-  -- all of the run is left at its first event
-  pub left-all : {offset : ℕ} → at ≡ firstAt offset → Left at im₀
-  left-all e = record { same = refl; counted = omega (arith, ap (λ (k : Cursor). k .number) e) }
-
-  module _ {next : Cursor} {im : Images} (l : Left next im) where
-    -- the run that began at the first event, from the file's registers, has ended
-    pub left-end : {registers offset : ℕ} (old : Images) → Accepted b t g registers offset → at ≡ firstAt offset → im₀ ≡ startFrom b t registers offset old
-        → length b ≤ next .offset → Prints (UpTo next) im (runEnd b old)
-    left-end old a e r h = rw (← a .tree, ← a .grants, ← a .held, ← a .first, ← e, ← r) (sym (l .same ∙ end-past t g b (length b) next im h))
-
-    module _ {r : Printed} {to : Cursor} (e : r ≡ UpTo to) (after : Images) (p : Prints r after (afterPart (partOf t g b 65536 next im))) where
-      printed : place to after ≡ afterPart (partOf t g b 65536 next im)
-      printed = rw e at p
-
-      -- one part later
-      pub left-next : Left to after
-      left-next =
-          record {
-            same = l .same ∙ part-end t g b (length b) 65536 next im ∙ ap (endFrom t g b) (sym printed);
-            counted = rw (ap (λ (k : Place). k .next) printed) (counted t g b 65536 next im (l .counted));
-          }
-
-      pub left-less : next .offset < length b → length b - to .offset < length b - next .offset
-      left-less h =
-          omega (arith, ap (λ (k : Place). k .next .offset) printed, progress t g b 65536 next im (omega arith) h)
+  -- and where all is printed, it is reached
+  pub done-end : (rest : Rest) (im : Images) → isDone b rest ≡ true → endFrom t g b rest im ≡ standing rest im
+  unfolding isDone endFrom
+  done-end (Refused number offset) im q = absurd (false≢true q)
+  done-end (Events at) im q = ap atPlace (end-past (length b) at im (leb-true (length b) (at .offset) q))
+  done-end Nothing im q = refl

@@ -1,5 +1,6 @@
 -- What the functions' proofs use.
+mod Blank
 mod Ends
-mod Read
-mod Room
+mod Loaded
+mod Parts
 mod Within

@@ -50,6 +50,7 @@ use Rattle.event_run.specs.declared.Answer.{Answer}
 use Rattle.event_run.specs.declared.Answer.the-variants.{Checked}
 use Rattle.event_run.specs.definitions.Run.{eventRun}
 use Rattle.event_laws.specs.definitions.Stores.{Stores}
+use Rattle.print_line.specs.definitions.Line.{refusedLine}
 use Rattle.print_file.specs.definitions.Output.{linesOf, blank, eventsAt, firstAt, outputOf}
 use Rattle.print_file.specs.definitions.Filling.{ranAt}
 use Rattle.print_file.specs.definitions.Place.{Place, endUpTo}
@@ -297,6 +298,8 @@ pub record Demand1 : Type 0 where
   pub saves : (rack : Rack) (im : Images) (old : List ℕ) → Save rack im old
   pub c-saves : (b : List ℕ) (im : Images) (old : List ℕ) → CSave b im old
   pub c-opens : (b : List ℕ) (im : Images) → COpen b im
+  -- 01: 'A refused input prints only `refused N at O`'
+  pub prints : (b : List ℕ) → (fileIn b .refusal ≡ 0 → ⊥) → outputOf b ≡ refusedLine (fileIn b .refusal) (fileIn b .offset)
   pub grants : (mask requests : ℕ) (s : State) → Grants mask requests s
   pub c-grants : (mask requests high low : ℕ) → CGrants mask requests high low
 
@@ -336,6 +339,8 @@ pub record Demand1 : Type 0 where
 --   file_save        save::save                     Saved.savedFile
 --   event_run        run::answer_event              Run.eventRun
 --   print_file       fill::fill                     Filling.partOf
+--   print_output     left::first_rest               Rest.firstOf
+--                    part::put_part                 Piece.pieceOf, which goes on with Rest.outputFrom
 --   call_open        read_register, write_register  Call.readIn, Call.storedIn
 --                    view, size_region              Call.viewIn, Call.sizeIn
 --                    window_ends                    Call.endsIn
@@ -344,6 +349,7 @@ pub record Demand1 : Type 0 where
 --   muzgante         rack_run, rack_check           Called.rackRun, Called.rackCheck
 --                    rack_window, rack_reset        Called.rackWindow, Called.rackReset
 --                    rack_save, rack_open           Filed.rackSave, Filed.rackOpen
+--   rackrun          run                            Output.outputOf: the bytes that `write_next` is given, each once and in order
 
 -- 3. 'For every rack, whatever its registers hold, an accepted check passes exactly when the count of claimants is at most one on every
 -- bus, for each agent of that bus as driver and every memory and I/O address, and for the agent above it and each bus number 1 to 255.

@@ -28,6 +28,7 @@ use Rattle.held_laws.specs.laws.OtherCheck.{check-others}
 use Rattle.file_record.specs.definitions.Load.{Loading, fileIn, rackAlone}
 use Rattle.file_record.specs.definitions.Start.{startImages}
 use Rattle.print_file.specs.definitions.Output.{firstAt}
+use Rattle.print_laws.specs.laws.Whole.{output-refused}
 use Rattle.file_record.specs.laws.Turns.{read-over, read-empty}
 use Rattle.file_laws.specs.laws.Refused as file
 use Rattle.file_laws.specs.laws.Seats as seats
@@ -208,6 +209,7 @@ demand1 =
             by-length = saving.c-open-by-length b im;
             answers = saving.c-open-answers b im;
           };
+      prints = output-refused;
       grants = λ mask requests s. record { refused = is-refused mask requests s; answers = is-answered mask requests s };
       c-grants = c-grants;
     }

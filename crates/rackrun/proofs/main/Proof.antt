@@ -36,6 +36,12 @@ slice-aggregate-run c = search (read-part, needs)
 run-requires : tie.Need-run-requires
 run-requires c κs = search needs
 
+enum-told-2 : tie.Need-enum-told-2
+enum-told-2 c = search needs
+
+enum-told-3 : tie.Need-enum-told-3
+enum-told-3 c = search needs
+
 slice-aggregate-write-all-2 : tie.Need-slice-aggregate-write-all-2
 slice-aggregate-write-all-2 c = search needs
 
@@ -63,6 +69,8 @@ main-spec =
     array-share-prefix-buffer
     slice-aggregate-run
     run-requires
+    enum-told-2
+    enum-told-3
     slice-aggregate-write-all-2
     write-all-requires-2
     returns-2

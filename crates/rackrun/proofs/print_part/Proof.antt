@@ -1,4 +1,4 @@
-use Rattle.rackrun.proofs.Ends.{part-printed}
+use Rattle.rackrun.proofs.Parts.{next-fits, next-bytes, part-later, part-printed}
 use borrow.Author.Needs.{needs}
 use Rattle.rackrun.proofs.print_part.Statement.{statement}
 use Rattle.rackrun.proofs.print_part.Tie as tie
@@ -9,11 +9,11 @@ large-buffer-requires c κs = search needs
 slice-aggregate-out : tie.Need-slice-aggregate-out
 slice-aggregate-out c = search needs
 
-fill-requires : tie.Need-fill-requires
-fill-requires c κs = search needs
+put-part-requires : tie.Need-put-part-requires
+put-part-requires c κs = search needs
 
-print-requires : tie.Need-print-requires
-print-requires c κs = search needs
+write-next-requires : tie.Need-write-next-requires
+write-next-requires c κs = (search needs, search (next-bytes, needs), search (next-fits, needs))
 
 same-length : tie.Need-same-length
 same-length c = search needs
@@ -22,16 +22,7 @@ same-length-2 : tie.Need-same-length-2
 same-length-2 c = search needs
 
 returns : tie.Need-returns
-returns c = search (part-printed, needs)
-
-same-length-3 : tie.Need-same-length-3
-same-length-3 c = search needs
-
-same-length-4 : tie.Need-same-length-4
-same-length-4 c = search needs
-
-returns-2 : tie.Need-returns-2
-returns-2 c = search needs
+returns c = (search (part-printed, needs), search (part-later, needs))
 
 pub print-part-spec : {M : Type 1} → statement M
 print-part-spec =
@@ -39,11 +30,8 @@ print-part-spec =
     (tie.spec
     large-buffer-requires
     slice-aggregate-out
-    fill-requires
-    print-requires
+    put-part-requires
+    write-next-requires
     same-length
     same-length-2
-    returns
-    same-length-3
-    same-length-4
-    returns-2)
+    returns)

@@ -1,0 +1,4 @@
+-- What the functions' proofs use.
+mod Done
+mod First
+mod Pieces

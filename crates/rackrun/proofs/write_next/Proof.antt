@@ -1,0 +1,24 @@
+use mathlib.Core.Path.{sym}
+use lib.Seq.{length-take-le}
+use borrow.Author.Needs.{needs}
+use Rattle.rackrun.proofs.write_next.Statement.{statement}
+use Rattle.rackrun.proofs.write_next.Tie as tie
+
+slice-aggregate-write-all : tie.Need-slice-aggregate-write-all
+slice-aggregate-write-all c = sym (length-take-le _ _ (search needs))
+
+write-all-requires : tie.Need-write-all-requires
+write-all-requires c κs = search needs
+
+add-t9 : tie.Need-add-t9
+add-t9 c = search needs
+
+returns : tie.Need-returns
+returns c = search needs
+
+returns-2 : tie.Need-returns-2
+returns-2 c = search needs
+
+pub write-next-spec : {M : Type 1} → statement M
+write-next-spec =
+    tie.close (tie.spec slice-aggregate-write-all write-all-requires add-t9 returns returns-2)
