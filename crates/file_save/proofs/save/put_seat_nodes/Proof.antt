@@ -20,6 +20,10 @@ count-of-requires c κs = search needs
 loop-holds : tie.Need-loop-holds Inv-loop μ-loop
 loop-holds c = search (puts-all, from-zero, needs)
 
+-- which records are placed, before that there is room for them
+loop-again : tie.Need-loop-again Inv-loop μ-loop
+loop-again c = search (puts-next, needs)
+
 put-seat-requires : tie.Need-put-seat-requires Inv-loop μ-loop
 put-seat-requires c κs = search (puts-room, needs)
 
@@ -28,9 +32,6 @@ add-node c = search needs
 
 loop-less : tie.Need-loop-less Inv-loop μ-loop
 loop-less c = search needs
-
-loop-again : tie.Need-loop-again Inv-loop μ-loop
-loop-again c = search (puts-next, needs)
 
 same-length : tie.Need-same-length Inv-loop μ-loop
 same-length c = search needs
