@@ -24,7 +24,7 @@ pub fn read_register<'a>(
 {
     let table = table_of(rack);
     let grants = grants_of(rack);
-    call_table::nodes::read_on(&table, &grants, bridges, devices, node, register)
+    call_node::read_on(&table, &grants, bridges, devices, node, register)
 }
 
 // A register write of a node; the refusal's number, 0 where it is accepted.
@@ -41,7 +41,7 @@ pub fn write_register(
 {
     let table = table_of(rack);
     let grants = grants_of(rack);
-    call_table::nodes::write_on(
+    call_node::write_on(
         &table,
         &grants,
         bridges,
@@ -59,7 +59,7 @@ pub fn view<'a>(rack: Rack, bridges: &'a [u8], devices: &'a [u8], node: u8) -> &
 {
     let table = table_of(rack);
     let grants = grants_of(rack);
-    call_table::nodes::view_on(&table, &grants, bridges, devices, node)
+    call_node::view_on(&table, &grants, bridges, devices, node)
 }
 
 // The size of a device's region, found by writing all ones; both images are then what they were.
@@ -74,7 +74,7 @@ pub fn size_region(
 {
     let table = table_of(rack);
     let grants = grants_of(rack);
-    call_table::nodes::size_on(&table, &grants, bridges, devices, node, region)
+    call_node::size_on(&table, &grants, bridges, devices, node, region)
 }
 
 // Both ends of window k of a bridge (0 memory, 1 prefetchable, 2 I/O), or of region k of a device.
@@ -89,7 +89,7 @@ pub fn window_ends<'a>(
 {
     let table = table_of(rack);
     let grants = grants_of(rack);
-    call_table::nodes::ends_on(&table, &grants, bridges, devices, node, k)
+    call_node::ends_on(&table, &grants, bridges, devices, node, k)
 }
 
 // An event of kinds 4 to 8 and 10, the check too, by the acting seat.

@@ -1,22 +1,17 @@
--- What each call gives once its refusal is known.
+-- The refusal of a call, number by number, and what an accepted run gives.
 use mathlib.Core.Path.{_≡_, sym, ap, _∙_}
 use mathlib.Core.Bool.{Bool, true, false, _||_}
-use mathlib.Core.List.{List}
 use Prim.Native.Nat.{ℕ}
 use lib.Dec.{leb, ltb}
-use Rattle.rack.specs.declared.Range.{Range}
 use Rattle.rack.specs.definitions.Tree.{Tree}
 use Rattle.rack.specs.definitions.Refusal.{rackRefusal}
-use Rattle.rack.specs.definitions.First.{_when_, _or_, unless}
-use Rattle.rack.specs.laws.FirstLaws.{or-this, or-next, or-none, unless-number, unless-none}
+use Rattle.rack.specs.definitions.First.{_when_, _or_}
+use Rattle.rack.specs.laws.FirstLaws.{or-this, or-next, or-none}
 use Rattle.seat.specs.definitions.Grants.{Grants}
 use Rattle.register_image.specs.definitions.Image.{Images, Result, gives}
 use Rattle.bus_reset.specs.definitions.Agreement.{imageRefusal}
-use Rattle.register_header.specs.definitions.Register.{readRegister}
 use Rattle.event_run.specs.declared.Answer.{Answer}
 use Rattle.call_table.specs.declared.Reply.the-variants as reply
-use Rattle.call_table.specs.declared.Number.the-variants as number
-use Rattle.call_table.specs.declared.RangeReply.the-variants as range-reply
 use Rattle.call_table.specs.definitions.Call.{refusalBy, ran}
 
 module _ (t : Tree) (g : Grants) (im : Images) (field seat : ℕ) where
@@ -49,32 +44,6 @@ module _ (t : Tree) (g : Grants) (im : Images) (field seat : ℕ) where
   pub accepted-rack : {r : ℕ} → r ≡ refusalBy t g im field seat → r ≡ 0 → rackRefusal t ≡ 0
   unfolding refusalBy
   accepted-rack e z = or-none (rackRefusal t) _ (sym e ∙ z) .0
-
--- what the call hands back, from the numbers that were found
-module _ (t : Tree) (g : Grants) (im : Images) (field seat : ℕ) {n m : ℕ} (en : n ≡ field) (em : m ≡ seat) where
-  pub is-number : {r : ℕ} → r ≡ refusalBy t g im n m → r ≡ refusalBy t g im field seat
-  is-number er = er ∙ ap (λ (k : ℕ). refusalBy t g im k m) en ∙ ap (refusalBy t g im field) em
-
-  pub is-none : {r : ℕ} → r ≡ refusalBy t g im n m → r ≡ 0 → 0 ≡ refusalBy t g im field seat
-  is-none er z = sym (sym (is-number er) ∙ z)
-
-  -- a refused call, and an accepted one
-  module _ {A : Type 0} (given : A) (refused : ℕ → A) where
-    pub is-refused : {r : ℕ} {a : A} → r ≡ refusalBy t g im n m → (r ≡ 0 → ⊥) → a ≡ refused r
-        → a ≡ unless (refusalBy t g im field seat) given refused
-    is-refused er ne ea =
-        let e = is-number er in ea ∙ ap refused e ∙ sym (unless-number given refused (λ z. ne (e ∙ z)))
-
-    pub is-given : {r : ℕ} {a : A} → r ≡ refusalBy t g im n m → r ≡ 0 → a ≡ given
-        → a ≡ unless (refusalBy t g im field seat) given refused
-    is-given er z ea = ea ∙ sym (unless-none given refused (sym (is-number er) ∙ z))
-
-pub read-of : (register : ℕ) {part l : List ℕ} {v : ℕ} → part ≡ l → v ≡ readRegister part register
-    → number.Value v ≡ number.Value (readRegister l register)
-read-of register ep ev = ap number.Value (ev ∙ ap (λ (p : List ℕ). readRegister p register) ep)
-
-pub range-of : {r s : Range} → r ≡ s → range-reply.Range r ≡ range-reply.Range s
-range-of e = ap range-reply.Range e
 
 pub ran-of : {a : Answer} {v : Images} {q : Result Answer} → gives a v ≡ q
     → gives (reply.Answered a) v ≡ ran q

@@ -1,6 +1,6 @@
-// What the open calls do over the table of a rack; `call_open` has them over a decoded rack, `muzgante` from C.
+// What the open calls do over the table of a rack: their refusals, and the calls that run something; `call_node` has those that name a node,
+// `call_open` all of them over a decoded rack, `muzgante` from C.
 
-pub mod nodes;
 pub mod refusal;
 pub mod runs;
 

@@ -53,7 +53,7 @@ fn field_refusal(wrong: bool) -> u8
 }
 
 // 13 of a register read.
-pub(crate) fn read_refusal(table: &Table, i: u8, register: u8) -> u8
+pub fn read_refusal(table: &Table, i: u8, register: u8) -> u8
     ensures { λ r. ⌜ r ≡ readRefusal (treeOf (now (table .entry))) i register ⌝ }
 {
     let count = count_of(table);
@@ -61,7 +61,7 @@ pub(crate) fn read_refusal(table: &Table, i: u8, register: u8) -> u8
 }
 
 // 13 of a register write.
-pub(crate) fn store_refusal(table: &Table, i: u8, register: u8, enables: u8) -> u8
+pub fn store_refusal(table: &Table, i: u8, register: u8, enables: u8) -> u8
     ensures { λ r. ⌜ r ≡ storeRefusal (treeOf (now (table .entry))) i register enables ⌝ }
 {
     let count = count_of(table);
@@ -69,7 +69,7 @@ pub(crate) fn store_refusal(table: &Table, i: u8, register: u8, enables: u8) -> 
 }
 
 // 13 of a view.
-pub(crate) fn view_refusal(table: &Table, i: u8) -> u8
+pub fn view_refusal(table: &Table, i: u8) -> u8
     ensures { λ r. ⌜ r ≡ viewRefusal (treeOf (now (table .entry))) i ⌝ }
 {
     let count = count_of(table);
@@ -77,7 +77,7 @@ pub(crate) fn view_refusal(table: &Table, i: u8) -> u8
 }
 
 // 13 of a region: a missing node, a bridge, a fourth region.
-pub(crate) fn region_refusal(table: &Table, i: u8, r: u8) -> u8
+pub fn region_refusal(table: &Table, i: u8, r: u8) -> u8
     ensures { λ s. ⌜ s ≡ regionRefusal (treeOf (now (table .entry))) i r ⌝ }
 {
     let count = count_of(table);
@@ -86,7 +86,7 @@ pub(crate) fn region_refusal(table: &Table, i: u8, r: u8) -> u8
 }
 
 // 13 of a window or region.
-pub(crate) fn window_refusal(table: &Table, i: u8, k: u8) -> u8
+pub fn window_refusal(table: &Table, i: u8, k: u8) -> u8
     ensures { λ r. ⌜ r ≡ windowRefusal (treeOf (now (table .entry))) i k ⌝ }
 {
     let count = count_of(table);

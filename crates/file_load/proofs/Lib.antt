@@ -1,2 +1,2 @@
 -- What the functions' proofs use.
-mod Turns
+mod Later

@@ -45,6 +45,6 @@ pub extern "C" fn rack_window<'a>(
         return refuse(answer, l.refusal);
     }
     let grants = l.grants;
-    let e = call_table::nodes::ends_on(&l.table, &grants, bridges, devices, node, k);
+    let e = call_node::ends_on(&l.table, &grants, bridges, devices, node, k);
     put_ends(answer, e)
 }

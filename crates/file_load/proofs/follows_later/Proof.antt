@@ -1,5 +1,5 @@
 use borrow.Author.Needs.{needs}
-use Rattle.file_load.proofs.Turns.{later-read}
+use Rattle.file_load.proofs.Later.{later-read}
 use Rattle.file_load.proofs.follows_later.Statement.{statement}
 use Rattle.file_load.proofs.follows_later.Tie as tie
 

@@ -1,5 +1,6 @@
 use Rattle.call_table.specs.definitions.Call.{runIn}
-use Rattle.call_table.proofs.Calling.{accepted-rack, is-refused, is-given, ran-of}
+use Rattle.call_table.specs.laws.HandedBack.{is-refused, is-given}
+use Rattle.call_table.proofs.Calling.{accepted-rack, ran-of}
 use borrow.Author.Needs.{needs}
 use Rattle.call_table.proofs.runs.run_on.Statement.{statement}
 use Rattle.call_table.proofs.runs.run_on.Tie as tie
