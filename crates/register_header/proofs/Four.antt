@@ -7,11 +7,9 @@ use borrow.Author.Tests.{lt-ltb}
 use lib.ListN.{length, getD, set}
 use lib.Seq.{set-out}
 use Rattle.rack.specs.declared.Node.{Node}
-use Rattle.register_header.specs.declared.Side.{Side}
-use Rattle.register_header.specs.declared.StatusBit.{StatusBit}
 use Rattle.register_header.specs.definitions.Byte.{writtenByte}
 use Rattle.register_header.specs.definitions.Mask.{writeMask, clearMask}
-use Rattle.register_header.specs.definitions.Register.{bitAt, dwordOf, readRegister, writeByte, writeDword, writeRegister, statusAt, setStatus}
+use Rattle.register_header.specs.definitions.Register.{bitAt, dwordOf, readRegister, writeByte, writeDword, writeRegister}
 
 pub four-read : (p : List ℕ) (at : ℕ) {a b c d r : ℕ} → at < 64 → a ≡ getD p at 0 → b ≡ getD p (at + 1) 0 → c ≡ getD p (at + 2) 0
     → d ≡ getD p (at + 3) 0 → r ≡ dwordOf a b c d → r ≡ readRegister p at
@@ -37,8 +35,3 @@ module _ (n : Node) (p : List ℕ) (at : ℕ) where
   unfolding writeByte
   byte-past true put h = sym (set-out p at _ h)
   byte-past false put h = refl
-
-pub status-past : (n : Node) (p : List ℕ) (side : Side) (bit : StatusBit) {at : ℕ} → at ≡ statusAt (n .kind) side → length p ≤ at
-    → p ≡ setStatus n p side bit
-unfolding setStatus
-status-past n p side bit e h = rw (← e) (sym (set-out p _ _ h))

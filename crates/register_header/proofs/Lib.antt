@@ -1,6 +1,5 @@
 -- What the functions' proofs use.
 mod Power
 mod Four
-mod Restore
 mod Masks
-mod Sized
+mod Back

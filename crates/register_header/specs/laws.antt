@@ -5,3 +5,4 @@ pub mod Disjoint
 pub mod Lacked
 pub mod Dword
 pub mod SizingLaws
+pub mod Restore

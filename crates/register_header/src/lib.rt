@@ -1,4 +1,4 @@
-// The registers of one node: header tables, the byte law, register reads and writes, status bits, sizing.
+// The registers of one node: header tables, the byte law, register reads and writes; `register_access` sets status bits and sizes regions.
 pub mod bridge_tables;
 pub mod byte;
 pub mod device_tables;
@@ -8,7 +8,6 @@ pub mod older_bridge_tables;
 pub mod pci_regs;
 pub mod register;
 pub mod sizing;
-pub mod status;
 pub mod tables;
 
 // What a bridge can do beyond the least that a bridge must: an I/O window above 64 KiB, a prefetchable window above 4 GiB, and VGA

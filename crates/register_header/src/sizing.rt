@@ -1,14 +1,10 @@
-// The size of a region, through the same register write that an access uses.
+// All ones written to a register and read back, through the same register write that an access uses: the step of sizing.
 ghost use mathlib.Core.Path.{_≡_};
-ghost use Prim.Native.Nat.{_+_, _*_, _^_, _<_};
-ghost use mathlib.Core.Bool.{false};
-ghost use Rattle.rack.specs.definitions.Node.{isBridge};
-ghost use Rattle.register_header.specs.definitions.Sizing.{readBack, writtenBack, cleared, negated, regionRegister, sizePart};
-use crate::pci_regs::BASE_ADDRESS;
+ghost use Rattle.register_header.specs.definitions.Sizing.{readBack, writtenBack};
 use rack::Node;
 
 // All ones written and read back, and what was there before written again.
-fn read_back(part: &mut [u8], n: Node, register: u8) -> u32
+pub fn read_back(part: &mut [u8], n: Node, register: u8) -> u32
     ensures { λ r. ⌜ (r ≡ readBack n (now (part .entry)) register) × (now (part .exit) ≡ writtenBack n (now (part .entry)) register) ⌝ }
 {
     let saved = crate::register::read_register(part, register);
@@ -16,39 +12,4 @@ fn read_back(part: &mut [u8], n: Node, register: u8) -> u32
     let seen = crate::register::read_register(part, register);
     crate::register::write_register(part, n, register, 15, saved);
     seen
-}
-
-// Zero minus a dword, its type bits cleared.
-fn size_dword(seen: u32, types: u32) -> u64
-    requires { ⌜ 0 < types ⌝ }
-    ensures { λ r. ⌜ r ≡ negated 32 (cleared types seen) ⌝ }
-{
-    std::num::wrapping_sub_u32(0, seen - seen % types) as u64
-}
-
-fn size_qword(low: u32, high: u32) -> u64
-    ensures { λ r. ⌜ r ≡ negated 64 (cleared 16 (high * 2 ^ 32 + low)) ⌝ }
-{
-    let seen = high as u64 * 0x1_0000_0000 + low as u64;
-    std::num::wrapping_sub_u64(0, seen - seen % 16)
-}
-
-// The size of region r of a device, which is as it was at exit.
-pub fn size_part(part: &mut [u8], n: Node, kind: u8, r: u8) -> u64
-    requires { ⌜ (isBridge (n .kind) ≡ false) × (r < 3) ⌝ }
-    ensures { λ s. ⌜ (s ≡ sizePart n (now (part .entry)) kind (regionRegister r)) × (now (part .exit) ≡ now (part .entry)) ⌝ }
-{
-    let register = BASE_ADDRESS + 8 * r;
-    if kind == 1 {
-        return size_dword(read_back(part, n, register), 4);
-    }
-    if kind == 2 {
-        return size_dword(read_back(part, n, register), 16);
-    }
-    if kind == 3 {
-        let high = read_back(part, n, register + 4);
-        let low = read_back(part, n, register);
-        return size_qword(low, high);
-    }
-    0
 }

@@ -79,7 +79,7 @@ fn status_part(image: &mut [u8], place: usize, n: Node, side: Side, bit: StatusB
     ensures { λ _. ⌜ now (image .exit) ≡ onPart (now (image .entry)) place (λ part. setStatus n part side bit) ⌝ }
 {
     if place < image.len() / 64 {
-        register_header::status::set_status(&mut image[64 * place..64 * place + 64], n, side, bit);
+        register_access::status::set_status(&mut image[64 * place..64 * place + 64], n, side, bit);
     }
 }
 

@@ -16,7 +16,7 @@ fn size_at(image: &mut [u8], place: usize, n: Node, kind: u8, r: u8) -> u64
     ensures { λ s. ⌜ (s ≡ sizePart n (nodePart (now (image .entry)) place) kind (regionRegister r)) × (now (image .exit) ≡ now (image .entry)) ⌝ }
 {
     if place < image.len() / 64 {
-        return register_header::sizing::size_part(
+        return register_access::sizing::size_part(
             &mut image[64 * place..64 * place + 64],
             n,
             kind,

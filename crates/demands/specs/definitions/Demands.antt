@@ -313,7 +313,7 @@ pub record Demand1 : Type 0 where
 --   register_header  edition::options_of            Options.optionsOf
 --                    register::read_register        Register.readRegister
 --                    register::write_register       Register.writeRegister
---                    status::set_status             Register.setStatus
+--   register_access  status::set_status             Register.setStatus
 --   register_image   image::view                    Image.view
 --                    image::write_node              Image.writeNode
 --                    image::status_node             Image.statusNode

@@ -1,5 +1,5 @@
 use borrow.Author.Needs.{needs}
-use Rattle.register_header.proofs.Sized.{back-seen, back-written}
+use Rattle.register_header.proofs.Back.{back-seen, back-written}
 use Rattle.register_header.proofs.sizing.read_back.Statement.{statement}
 use Rattle.register_header.proofs.sizing.read_back.Tie as tie
 

@@ -1,8 +1,8 @@
 use borrow.Author.Needs.{needs}
 use Rattle.register_header.specs.definitions.Register.{setStatus}
-use Rattle.register_header.proofs.Four.{status-past}
-use Rattle.register_header.proofs.status.set_status.Statement.{statement}
-use Rattle.register_header.proofs.status.set_status.Tie as tie
+use Rattle.register_access.proofs.Past.{status-past}
+use Rattle.register_access.proofs.status.set_status.Statement.{statement}
+use Rattle.register_access.proofs.status.set_status.Tie as tie
 
 status-at-requires : tie.Need-status-at-requires
 status-at-requires c κs = search needs

@@ -1,15 +1,15 @@
 // Setting a status bit: the only change that an access makes to registers by itself.
 ghost use mathlib.Core.Path.{_≡_};
 ghost use Rattle.register_header.specs.definitions.Register.{statusAt, statusMask, setStatus};
-use crate::Side;
-use crate::StatusBit;
-use crate::pci_regs::SEC_STATUS;
-use crate::pci_regs::STATUS;
-use crate::pci_regs::STATUS_REC_MASTER_ABORT;
-use crate::pci_regs::STATUS_REC_TARGET_ABORT;
-use crate::pci_regs::STATUS_SIG_TARGET_ABORT;
 use rack::Kind;
 use rack::Node;
+use register_header::Side;
+use register_header::StatusBit;
+use register_header::pci_regs::SEC_STATUS;
+use register_header::pci_regs::STATUS;
+use register_header::pci_regs::STATUS_REC_MASTER_ABORT;
+use register_header::pci_regs::STATUS_REC_TARGET_ABORT;
+use register_header::pci_regs::STATUS_SIG_TARGET_ABORT;
 
 fn status_at(kind: Kind, side: Side) -> usize
     ensures { λ r. ⌜ r ≡ statusAt kind side ⌝ }

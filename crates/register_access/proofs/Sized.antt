@@ -3,7 +3,7 @@ use mathlib.Core.Path.{_≡_, _∙_}
 use mathlib.Core.Bool.{false}
 use mathlib.Core.Logic.{_≢_}
 use mathlib.Core.List.{List}
-use Prim.Native.Nat.{ℕ, _+_, _-_, _*_, _^_, _≤_, _<_}
+use Prim.Native.Nat.{ℕ, _+_, _*_, _^_, _≤_, _<_}
 use native.Mathlib.Omega.{arith}
 use borrow.Author.Tests.{ne-eqb}
 use mir.Syntax.{w8}
@@ -11,10 +11,9 @@ use mir.Val.{Fits}
 use lib.ListN.{getD}
 use Rattle.rack.specs.declared.Node.{Node}
 use Rattle.rack.specs.definitions.Node.{isBridge}
 use Rattle.register_header.specs.definitions.PciRegs.{BASE-ADDRESS}
-use Rattle.register_header.specs.definitions.Register.{readRegister, writeRegister}
 use Rattle.register_header.specs.definitions.Sizing.{readBack, writtenBack, cleared, negated, regionRegister, sizePart}
-use Rattle.register_header.proofs.Restore.{written-back}
+use Rattle.register_header.specs.laws.Restore.{written-back}
 
 module _ (n : Node) (l : List ℕ) (kind r : ℕ) {x s : ℕ} where
   pub size-io : kind ≡ 1 → x ≡ readBack n l (regionRegister r) → s ≡ negated 32 (cleared 4 x) → s ≡ sizePart n l kind (regionRegister r)
@@ -47,14 +46,3 @@ module _ {r : ℕ} (h : r < 3) (n : Node) (device : isBridge (n .kind) ≡ false
         → s ≡ negated 64 (cleared 16 (high * 2 ^ 32 + low)) → s ≡ sizePart n l kind (regionRegister r)
     unfolding sizePart
     size-wide kind q eh el es = rw (q, ← eh, ← is, ← el) es
-
--- all ones read back, and what was there before written again, from what the code has read and written
-module _ (n : Node) (part : List ℕ) (register : ℕ) {v : List ℕ} (e : v ≡ writeRegister n part register 15 (2 ^ 32 - 1)) where
-  pub back-seen : {seen : ℕ} → seen ≡ readRegister v register → seen ≡ readBack n part register
-  unfolding readBack
-  back-seen r = rw (r, e)
-
-  pub back-written : {saved : ℕ} {w : List ℕ} → saved ≡ readRegister part register → w ≡ writeRegister n v register 15 saved
-      → w ≡ writtenBack n part register
-  unfolding writtenBack
-  back-written s r = rw (r, s, e)

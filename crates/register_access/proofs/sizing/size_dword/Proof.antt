@@ -1,7 +1,7 @@
 use native.Mathlib.Nat.{mod-le}
 use borrow.Author.Needs.{needs}
-use Rattle.register_header.proofs.sizing.size_dword.Statement.{statement}
-use Rattle.register_header.proofs.sizing.size_dword.Tie as tie
+use Rattle.register_access.proofs.sizing.size_dword.Statement.{statement}
+use Rattle.register_access.proofs.sizing.size_dword.Tie as tie
 
 rem-wrapping-sub-u32 : tie.Need-rem-wrapping-sub-u32
 rem-wrapping-sub-u32 c = search needs

@@ -1,7 +1,7 @@
 use borrow.Author.Needs.{needs}
-use Rattle.register_header.proofs.Sized.{size-io, size-memory, size-wide, size-none, same, same-wide}
-use Rattle.register_header.proofs.sizing.size_part.Statement.{statement}
-use Rattle.register_header.proofs.sizing.size_part.Tie as tie
+use Rattle.register_access.proofs.Sized.{size-io, size-memory, size-wide, size-none, same, same-wide}
+use Rattle.register_access.proofs.sizing.size_part.Statement.{statement}
+use Rattle.register_access.proofs.sizing.size_part.Tie as tie
 
 mul-register : tie.Need-mul-register
 mul-register c = search needs

@@ -1,0 +1,3 @@
+-- What the functions' proofs use.
+mod Past
+mod Sized
