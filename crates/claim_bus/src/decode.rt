@@ -43,7 +43,7 @@ fn bridge_of(kind: Kind, part: &[u8]) -> BridgeClaims
     ensures { λ r. ⌜ r ≡ bridgeOf (optionsOf kind) (now (part .entry)) ⌝ }
 {
     let command = byte_at(part, COMMAND);
-    let windows = claim_window::decode::windows_of(options_of(kind), part);
+    let windows = claim_decode::decode::windows_of(options_of(kind), part);
     let buses = bus_range(byte_at(part, SECONDARY_BUS), byte_at(part, SUBORDINATE_BUS));
     BridgeClaims {
         io: bit_at(command, COMMAND_IO),
@@ -61,7 +61,7 @@ pub fn area_in(n: Node, part: &[u8], r: u8) -> Area
 {
     let at = r as usize;
     let region = n.regions[at];
-    claim_window::region::area_of(part, region.kind, region.exponent, r)
+    claim_decode::region::area_of(part, region.kind, region.exponent, r)
 }
 
 // A device's claims from its registers.

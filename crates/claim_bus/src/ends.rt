@@ -35,7 +35,7 @@ pub fn window_ends<'a>(table: &Table, bridges: &'a [u8], devices: &'a [u8], i: u
         let part = view(table, bridges, devices, i);
         let kind = n.kind;
         if rack::is_bridge(kind) {
-            let w = claim_window::decode::windows_of(options_of(kind), part);
+            let w = claim_decode::decode::windows_of(options_of(kind), part);
             return window_in(w, k);
         }
         let area = area_in(n, part, k);

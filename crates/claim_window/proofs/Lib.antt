@@ -1,4 +1,2 @@
 -- What the functions' proofs use.
-mod Granule
 mod Low
-mod Decoded

@@ -1,8 +1,8 @@
 // Decoded windows and regions: what a bridge's windows and a device's regions hold, and how far upwards the answer stays the same.
+// `claim_decode` makes them from registers.
 pub mod cut;
-pub mod decode;
+pub mod holds;
 pub mod inside;
-pub mod region;
 
 use rack::Range;
 

@@ -1,6 +1,6 @@
--- A node and an event, after the code has read what their records hold.
+-- A kind, a node and an event, after the code has read what their records hold.
 use mathlib.Core.Path.{_≡_}
-use mathlib.Core.Bool.{Bool, true, false}
+use mathlib.Core.Bool.{Bool, true, false, not, _&&_, _||_}
 use mathlib.Core.List.{List, [], _∷_}
 use Prim.Native.Nat.{ℕ, _+_, _-_, _≤_}
 use native.Mathlib.Omega.{arith}
@@ -11,10 +11,17 @@ use Rattle.rack.specs.declared.Kind.{Kind}
 use Rattle.rack.specs.declared.Region.{Region}
 use Rattle.rack.specs.declared.Node.{Node}
 use Rattle.rack.specs.definitions.Node.{kindFrom, isBridge, noRegion}
+use Rattle.file_record.specs.declared.Class.{Class}
+use Rattle.file_record.specs.declared.Class.the-variants as class
 use Rattle.file_record.specs.declared.Event.the-variants.{Write, Read, Memory, Io, Check, Seat}
 use Rattle.file_record.specs.definitions.Number.{byteIn, wordIn, dwordIn, qwordIn}
-use Rattle.file_record.specs.definitions.Record.{regionFrom, nodeIn, registersIn}
+use Rattle.file_record.specs.definitions.Record.{isA, isRack, isKnown, regionFrom, nodeIn, registersIn}
 use Rattle.file_record.specs.definitions.Events.{eventIn}
+
+-- 2: what kinds may be read
+pub kind-known : (whole : Bool) (c : Class) {rack registers event : Bool} → rack ≡ isRack c → registers ≡ isA class.Registers c
+    → event ≡ isA class.Event c → not (rack || (whole && (registers || event))) ≡ not (isKnown whole c)
+kind-known whole c r g e = rw (r, g, e)
 
 abbrev made : Kind → ℕ → ℕ → ℕ → ℕ → List Region → Node
 made k p d v i regions =

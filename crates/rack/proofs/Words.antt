@@ -8,12 +8,19 @@ use borrow.Author.Tests.{lt-ltb, ltb-true}
 use lib.Dec.{ltb}
 use lib.ListN.{length, getD, set, length-set}
 use lib.Seq.{getD-set-same, getD-set-other}
+use Rattle.rack.specs.declared.Kind.{Kind}
 use Rattle.rack.specs.declared.Region.{Region}
 use Rattle.rack.specs.declared.Node.{Node}
 use Rattle.rack.specs.laws.Bools.{tested}
 use Rattle.rack.specs.laws.NodeLaws.{kind-back}
-use Rattle.rack.specs.definitions.Node.{kindNumber, isBridge, noRegion, regionIn, ownRegion, spelt}
+use Rattle.rack.specs.definitions.Node.{kindNumber, kindFrom, isBridge, noRegion, regionIn, ownRegion, spelt}
 use Rattle.rack.specs.definitions.Table.{Bytes, Low, High, nodeFrom, lowAt, highAt, nodeAt, tableWith}
+
+-- whether a node is a bridge, from its low word
+pub kind-read : (table : List ℕ) (i : ℕ) {low : ℕ} {k : Kind} {is : Bool} → low ≡ lowAt table i → k ≡ kindFrom (low % 256) → is ≡ isBridge k
+    → is ≡ isBridge (nodeAt table i .kind)
+unfolding nodeAt
+kind-read table i l k e = rw (e, k, l)
 
 -- a node whose two words are those of another table
 module _ (table other : List ℕ) (k : ℕ) (low : k < 96 → getD table (2 * k) 0 ≡ getD other (2 * k) 0)

@@ -323,7 +323,7 @@ pub record Demand1 : Type 0 where
 --   bus_reset        held::is_held_bus, is_held     Held.heldBus, Held.isHeld
 --                    agreement::image_refusal       Agreement.imageRefusal
 --                    store::store_node              Store.storeNode
---   claim_window     decode::windows_of             Window.windowsOf
+--   claim_decode     decode::windows_of             Window.windowsOf
 --                    region::area_of                Area.areaOf
 --   claim_agent      Agent::claims                  Claim.claimsOf
 --   claim_bus        decode::agent_at               Agent.agentOf

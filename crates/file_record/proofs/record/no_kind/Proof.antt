@@ -1,4 +1,5 @@
 use borrow.Author.Needs.{needs}
+use Rattle.file_record.proofs.Records.{kind-known}
 use Rattle.file_record.proofs.record.no_kind.Statement.{statement}
 use Rattle.file_record.proofs.record.no_kind.Tie as tie
 
@@ -12,7 +13,7 @@ is-a-requires-2 : tie.Need-is-a-requires-2
 is-a-requires-2 c κs = search needs
 
 returns : tie.Need-returns
-returns c = cc
+returns c = search (kind-known, needs)
 
 pub no-kind-spec : {M : Type 1} → statement M
 no-kind-spec = tie.close (tie.spec is-rack-requires is-a-requires is-a-requires-2 returns)

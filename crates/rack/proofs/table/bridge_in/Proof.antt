@@ -1,5 +1,5 @@
 use borrow.Author.Needs.{needs}
-use Rattle.rack.specs.definitions.Table.{nodeAt}
+use Rattle.rack.proofs.Words.{kind-read}
 use Rattle.rack.proofs.table.bridge_in.Statement.{statement}
 use Rattle.rack.proofs.table.bridge_in.Tie as tie
 
@@ -16,8 +16,7 @@ is-bridge-requires : tie.Need-is-bridge-requires
 is-bridge-requires c κs = search needs
 
 returns : tie.Need-returns
-unfolding nodeAt
-returns c = cc
+returns c = search (kind-read, needs)
 
 pub bridge-in-spec : {M : Type 1} → statement M
 bridge-in-spec =

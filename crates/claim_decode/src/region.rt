@@ -1,10 +1,9 @@
 // The addresses of a device's region from its registers.
 ghost use mathlib.Core.Path.{_≡_};
 ghost use Prim.Native.Nat.{_+_, _*_, _/_, _^_, _<_};
 ghost use Rattle.claim_window.specs.definitions.Range.{window};
-ghost use Rattle.claim_window.specs.definitions.Area.{regionValue, areaOf, holds};
-use crate::Area;
-use crate::cut::within_range;
+ghost use Rattle.claim_window.specs.definitions.Area.{regionValue, areaOf};
+use claim_window::Area;
 use rack::Range;
 use register_header::pci_regs::BASE_ADDRESS;
 use register_header::register::read_register;
@@ -62,13 +61,4 @@ pub fn area_of(part: &[u8], kind: u8, e: u8, r: u8) -> Area
     }
     let range = granule_of(region_value(part, kind, BASE_ADDRESS + 8 * r), e);
     Area { io, range }
-}
-
-impl Area {
-    pub fn holds_address(self, io: bool, a: u64) -> bool
-        ensures { λ r. ⌜ r ≡ holds self io a ⌝ }
-    {
-        let r = self.range;
-        ((io & self.io) | (!io & !self.io)) & within_range(r, a)
-    }
 }

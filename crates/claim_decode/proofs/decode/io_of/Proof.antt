@@ -1,7 +1,7 @@
 use borrow.Author.Needs.{needs}
-use Rattle.claim_window.proofs.Decoded.{window-is}
-use Rattle.claim_window.proofs.decode.io_of.Statement.{statement}
-use Rattle.claim_window.proofs.decode.io_of.Tie as tie
+use Rattle.claim_decode.proofs.Decoded.{window-is}
+use Rattle.claim_decode.proofs.decode.io_of.Statement.{statement}
+use Rattle.claim_decode.proofs.decode.io_of.Tie as tie
 
 io-granule-requires : tie.Need-io-granule-requires
 io-granule-requires c κs = search needs

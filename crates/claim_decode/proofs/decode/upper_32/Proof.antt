@@ -1,7 +1,7 @@
 use borrow.Author.Needs.{needs}
-use Rattle.claim_window.proofs.Decoded.{upper-32-is}
-use Rattle.claim_window.proofs.decode.upper_32.Statement.{statement}
-use Rattle.claim_window.proofs.decode.upper_32.Tie as tie
+use Rattle.claim_decode.proofs.Decoded.{upper-32-is}
+use Rattle.claim_decode.proofs.decode.upper_32.Statement.{statement}
+use Rattle.claim_decode.proofs.decode.upper_32.Tie as tie
 
 read-register-requires : tie.Need-read-register-requires
 read-register-requires c κs = search needs

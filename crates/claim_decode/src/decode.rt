@@ -1,9 +1,9 @@
 // The windows of a bridge from its options and its 64 register bytes.
 ghost use mathlib.Core.Path.{_≡_};
 ghost use Prim.Native.Nat.{_+_, _*_, _/_, _^_, _<_};
 ghost use Rattle.claim_window.specs.definitions.Range.{window};
 ghost use Rattle.claim_window.specs.definitions.Window.{wordAt, upper32, upper16, prefetchableGranule, ioGranule, memoryOf, prefetchableOf, ioOf, windowsOf};
-use crate::Windows;
+use claim_window::Windows;
 use rack::Range;
 use register_header::Options;
 use register_header::pci_regs::BRIDGE_CONTROL;

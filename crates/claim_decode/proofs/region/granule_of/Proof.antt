@@ -2,9 +2,9 @@ use native.Mathlib.Omega.{arith}
 use native.Mathlib.Nat.{lt-of-le-of-lt, div-mul-le-self}
 use lib.Pow.{pow-pos}
 use borrow.Author.Needs.{needs}
-use Rattle.claim_window.proofs.Granule.{last-fits}
-use Rattle.claim_window.proofs.region.granule_of.Statement.{statement}
-use Rattle.claim_window.proofs.region.granule_of.Tie as tie
+use Rattle.claim_decode.proofs.Granule.{last-fits}
+use Rattle.claim_decode.proofs.region.granule_of.Statement.{statement}
+use Rattle.claim_decode.proofs.region.granule_of.Tie as tie
 
 size-of-requires : tie.Need-size-of-requires
 size-of-requires c κs = search needs

@@ -1,7 +1,7 @@
 use borrow.Author.Needs.{needs}
-use Rattle.claim_window.proofs.Decoded.{memory-is}
-use Rattle.claim_window.proofs.decode.memory_of.Statement.{statement}
-use Rattle.claim_window.proofs.decode.memory_of.Tie as tie
+use Rattle.claim_decode.proofs.Decoded.{memory-is}
+use Rattle.claim_decode.proofs.decode.memory_of.Statement.{statement}
+use Rattle.claim_decode.proofs.decode.memory_of.Tie as tie
 
 word-at-requires : tie.Need-word-at-requires
 word-at-requires c κs = search needs

@@ -4,8 +4,8 @@ use native.Mathlib.Nat.{one-mul}
 use lib.Pow.{shl-exact}
 use lib.Dec.{lit<}
 use borrow.Author.Needs.{needs}
-use Rattle.claim_window.proofs.region.size_of.Statement.{statement}
-use Rattle.claim_window.proofs.region.size_of.Tie as tie
+use Rattle.claim_decode.proofs.region.size_of.Statement.{statement}
+use Rattle.claim_decode.proofs.region.size_of.Tie as tie
 
 shl-result : tie.Need-shl-result
 shl-result c = search needs

@@ -1,7 +1,7 @@
 use borrow.Author.Needs.{needs}
-use Rattle.claim_window.proofs.Decoded.{value-wide, value-dword}
-use Rattle.claim_window.proofs.region.region_value.Statement.{statement}
-use Rattle.claim_window.proofs.region.region_value.Tie as tie
+use Rattle.claim_decode.proofs.Decoded.{value-wide, value-dword}
+use Rattle.claim_decode.proofs.region.region_value.Statement.{statement}
+use Rattle.claim_decode.proofs.region.region_value.Tie as tie
 
 read-register-requires : tie.Need-read-register-requires
 read-register-requires c κs = search needs

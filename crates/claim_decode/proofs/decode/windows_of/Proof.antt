@@ -1,7 +1,7 @@
 use borrow.Author.Needs.{needs}
-use Rattle.claim_window.proofs.Decoded.{windows-is}
-use Rattle.claim_window.proofs.decode.windows_of.Statement.{statement}
-use Rattle.claim_window.proofs.decode.windows_of.Tie as tie
+use Rattle.claim_decode.proofs.Decoded.{windows-is}
+use Rattle.claim_decode.proofs.decode.windows_of.Statement.{statement}
+use Rattle.claim_decode.proofs.decode.windows_of.Tie as tie
 
 byte-at-requires : tie.Need-byte-at-requires
 byte-at-requires c κs = search needs

@@ -1,8 +1,8 @@
 use borrow.Author.Needs.{needs}
-use Rattle.claim_window.proofs.Decoded.{exponent-below, area-is}
+use Rattle.claim_decode.proofs.Decoded.{exponent-below, area-is}
 use Rattle.claim_window.specs.definitions.Area.{areaOf}
-use Rattle.claim_window.proofs.region.area_of.Statement.{statement}
-use Rattle.claim_window.proofs.region.area_of.Tie as tie
+use Rattle.claim_decode.proofs.region.area_of.Statement.{statement}
+use Rattle.claim_decode.proofs.region.area_of.Tie as tie
 
 returns : tie.Need-returns
 unfolding areaOf

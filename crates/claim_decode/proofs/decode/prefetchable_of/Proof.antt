@@ -1,7 +1,7 @@
 use borrow.Author.Needs.{needs}
-use Rattle.claim_window.proofs.Decoded.{window-is}
-use Rattle.claim_window.proofs.decode.prefetchable_of.Statement.{statement}
-use Rattle.claim_window.proofs.decode.prefetchable_of.Tie as tie
+use Rattle.claim_decode.proofs.Decoded.{window-is}
+use Rattle.claim_decode.proofs.decode.prefetchable_of.Statement.{statement}
+use Rattle.claim_decode.proofs.decode.prefetchable_of.Tie as tie
 
 prefetchable-granule-requires : tie.Need-prefetchable-granule-requires
 prefetchable-granule-requires c κs = search needs

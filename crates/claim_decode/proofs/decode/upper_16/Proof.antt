@@ -1,7 +1,7 @@
 use borrow.Author.Needs.{needs}
-use Rattle.claim_window.proofs.Decoded.{upper-16-is}
-use Rattle.claim_window.proofs.decode.upper_16.Statement.{statement}
-use Rattle.claim_window.proofs.decode.upper_16.Tie as tie
+use Rattle.claim_decode.proofs.Decoded.{upper-16-is}
+use Rattle.claim_decode.proofs.decode.upper_16.Statement.{statement}
+use Rattle.claim_decode.proofs.decode.upper_16.Tie as tie
 
 word-at-requires : tie.Need-word-at-requires
 word-at-requires c κs = search needs

@@ -1,0 +1,3 @@
+-- What the functions' proofs use.
+mod Granule
+mod Decoded
