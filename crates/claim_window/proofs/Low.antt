@@ -7,7 +7,7 @@ use borrow.Author.Tests.{lt-leb}
 use lib.Dec.{ltb, eqb}
 use Rattle.claim_window.specs.declared.Windows.{Windows}
 use Rattle.claim_window.specs.definitions.Range.{range, within}
-use Rattle.claim_window.specs.definitions.Inside.{isaCut, inVgaIo}
+use Rattle.claim_window.specs.definitions.Inside.{isaCut, inIo, inVgaIo}
 use Rattle.claim_window.specs.definitions.Cut.{cutIf, cutLow}
 
 module _ (a : ℕ) {low : ℕ} (is : low ≡ a % 0x10000) where
@@ -39,3 +39,7 @@ module _ (a : ℕ) {low : ℕ} (is : low ≡ a % 0x10000) where
   unfolding cutLow
   low-is isa vga e h ev ew ex ey ez er =
       let same : low ≡ a = omega (arith, is) in rw (lt-leb 0x10000 a h, er, ez, ey, ex, ew, ev, same)
+
+-- the I/O window, with what ISA cuts out of it
+pub io-read : (w : Windows) (a : ℕ) {inside cut : Bool} → inside ≡ within (w .io) a → cut ≡ isaCut w a → (inside && not cut) ≡ inIo w a
+io-read w a i c = rw (i, c)
