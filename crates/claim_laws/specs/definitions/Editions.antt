@@ -30,9 +30,9 @@ pub record ClaimLaws (o : Options) (part : List ℕ) (a : ℕ) : Type 0 where
   pub memory : insideMemory (windowsOf o part) a
       ≡ (memoryGranules o part a || (prefetchableGranules o part a || inVgaMemory (windowsOf o part) a))
   pub io : insideIo (windowsOf o part) a ≡ (ioGranules o part a || inVgaIo (windowsOf o part) a)
-  -- on either side a claim stays the same up to the end that is found with it, at most the one that was asked for
+  -- on either side a claim stays the same from its address up to the end that is found with it, at most the one that was asked for
   pub down : (space : Space) (e : ℕ) → a ≤ e
-      → (windowsUntil (bridgeOf o part) space a e ≤ e)
+      → (a ≤ windowsUntil (bridgeOf o part) space a e) × (windowsUntil (bridgeOf o part) space a e ≤ e)
       × ((x : ℕ) → a ≤ x → x ≤ windowsUntil (bridgeOf o part) space a e
       → primaryClaims (bridgeOf o part) space x ≡ primaryClaims (bridgeOf o part) space a)
   pub up : (space : Space) (e : ℕ) → a ≤ e

@@ -16,7 +16,7 @@ claim-laws o part a =
     record {
       memory = memory-both-ways o part a;
       io = io-both-ways o part a;
-      down = λ space e h. let k = primary-kept (bridgeOf o part) space a e in (k .high, k .same);
+      down = λ space e h. let k = primary-kept (bridgeOf o part) space a e in (k .low h, k .high, k .same);
       up = λ space e h. secondary-kept (bridgeOf o part) space a e .same;
       status = λ n bridge other same. bridge-same o n part other same bridge;
       lacks = lacked-no-part o part;
