@@ -1,5 +1,7 @@
 // The arbiter of a bus: ten requesters in two groups, and two rings that turn. It keeps nothing: a call is given the state and gives
 // the state after it.
+#![tactic(auto)]
+
 ghost use Rattle.std.specs.Prelude.{◌≡◌, ◌<◌};
 ghost use Rattle.arbiter.specs.definitions.Rings.{high_ring, low_ring};
 ghost use Rattle.arbiter.specs.definitions.Arbiter.{is_state, refused, step, arbitrate};
@@ -9,20 +11,20 @@ pub mod ring;
 use ring::{LOW_PLACE, MEMBERS, NONE, has, high_requests, low_requests, next_after};
 
 // What each ring granted last: a member's number, `LOW_PLACE` in the high ring, or `NONE` yet.
-#[derive(Drop)]
+#[derive(Clone, Copy)]
 pub struct State {
     pub high: u8,
     pub low: u8,
 }
 
 // What a step gives: the member granted, or `NONE`, and the state after.
-#[derive(Drop)]
+#[derive(Clone, Copy)]
 pub struct Turn {
     pub member: u8,
     pub after: State,
 }
 
-#[derive(Drop)]
+#[derive(Clone, Copy)]
 pub enum Arbitration {
     Refused(u8),
     NoGrant(State),

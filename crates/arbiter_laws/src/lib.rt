@@ -1,1 +1,2 @@
 // Theorems about the definitions of `arbiter`; no code.
+#![tactic(auto)]

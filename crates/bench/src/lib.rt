@@ -1,4 +1,6 @@
 // What the benchmarks call, over a table and two images: one memory read, and checks.
+#![tactic(auto)]
+
 ghost use Rattle.std.specs.Prelude.{◌≡◌};
 ghost use Rattle.rack.specs.definitions.Refusal.{rack_refusal};
 ghost use Rattle.rack.specs.definitions.Table.{tree_of};

@@ -1,4 +1,6 @@
 // The calls from C that write and open rack files; `muzgante` exports them.
+#![tactic(auto)]
+
 ghost use Rattle.std.specs.Prelude.{◌≡◌};
 ghost use Rattle.rack.specs.definitions.Table.{tree_of};
 ghost use Rattle.register_image.specs.definitions.Image.{images};

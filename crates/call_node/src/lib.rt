@@ -1,4 +1,6 @@
 // Calls that name a node, over the table of a rack.
+#![tactic(auto)]
+
 ghost use Rattle.std.specs.Prelude.{◌≡◌};
 ghost use Rattle.rack.specs.definitions.Table.{tree_of};
 ghost use Rattle.seat.specs.definitions.Table.{grants_of};

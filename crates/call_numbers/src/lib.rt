@@ -1,4 +1,6 @@
 // An answer as eight numbers: its own, its values, and zeros after them.
+#![tactic(auto)]
+
 ghost use Rattle.std.specs.Prelude.{◌≡◌, [], ◌∷◌};
 ghost use Rattle.route_bus.specs.definitions.End.{outcome_number};
 ghost use Rattle.event_run.specs.definitions.Answers.{ending_number, ending_values};

@@ -1,4 +1,6 @@
 // The open calls over a decoded rack and two lent images. None asks anything of its caller: each answers or refuses by number.
+#![tactic(auto)]
+
 ghost use Rattle.std.specs.Prelude.{◌≡◌};
 ghost use Rattle.rack.specs.definitions.Grow.{tree};
 ghost use Rattle.seat.specs.definitions.Grants.{acting, grants};

@@ -1,4 +1,6 @@
 // The writer as a call: a rack with its registers, as a file in a lent buffer. It asks nothing of its caller.
+#![tactic(auto)]
+
 ghost use Rattle.std.specs.Prelude.{◌≡◌, ◌++◌, ◌≤◌, length, take, drop};
 ghost use Rattle.rack.specs.definitions.Grow.{tree};
 ghost use Rattle.rack.specs.definitions.Table.{tree_of};

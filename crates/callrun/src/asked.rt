@@ -7,7 +7,7 @@ use rack::{Grant, Node, Rack};
 use register_header::register::byte_at;
 
 // The head of a call.
-#[derive(Drop)]
+#[derive(Clone, Copy)]
 pub struct Asked {
     pub operation: u8,
     pub rack: u32,

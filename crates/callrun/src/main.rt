@@ -1,4 +1,5 @@
 // callrun: makes the calls over a decoded rack that a script asks for (tests/CALLS.md, operations 1 to 7, 12 and 13) and writes what each gives.
+#![tactic(auto)]
 
 mod asked;
 mod made;

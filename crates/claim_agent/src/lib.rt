@@ -1,11 +1,13 @@
 // Whether an agent of a bus claims an address, and how far upwards the answer stays the same.
+#![tactic(auto)]
+
 pub mod answer;
 
 use claim_window::{Area, Windows};
 use rack::Range;
 
 // Where an access is claimed: by address, or by bus number (Type 1 configuration).
-#[derive(Drop)]
+#[derive(Clone, Copy)]
 pub enum Space {
     Memory,
     Io,
@@ -13,7 +15,7 @@ pub enum Space {
 }
 
 // What a bridge's claims rest on: command bits 0, 1 and 2, its windows, its bus numbers.
-#[derive(Drop)]
+#[derive(Clone, Copy)]
 pub struct BridgeClaims {
     pub io: bool,
     pub memory: bool,
@@ -23,7 +25,7 @@ pub struct BridgeClaims {
 }
 
 // What a device's claims rest on: command bits 0 and 1, its regions.
-#[derive(Drop)]
+#[derive(Clone, Copy)]
 pub struct DeviceClaims {
     pub io: bool,
     pub memory: bool,
@@ -33,7 +35,7 @@ pub struct DeviceClaims {
 }
 
 // An agent of a bus: a bridge on its primary or on its secondary bus, a device, or the host with its memory.
-#[derive(Drop)]
+#[derive(Clone, Copy)]
 pub enum Agent {
     Primary(BridgeClaims),
     Secondary(BridgeClaims),
@@ -42,21 +44,21 @@ pub enum Agent {
 }
 
 // Whether an agent claims an address, and an end up to which that stays the same.
-#[derive(Drop)]
+#[derive(Clone, Copy)]
 pub struct Verdict {
     pub claims: bool,
     pub until: u64,
 }
 
 // The region of a device that an address reaches, 3 for none, and the offset in it.
-#[derive(Drop)]
+#[derive(Clone, Copy)]
 pub struct Reached {
     pub region: u8,
     pub offset: u64,
 }
 
 // What is driven on a bus. The address of a configuration access is its bus number.
-#[derive(Drop)]
+#[derive(Clone, Copy)]
 pub struct Transaction {
     pub space: Space,
     pub bus: u8,
@@ -65,7 +67,7 @@ pub struct Transaction {
 }
 
 // The claimants of a transaction: none, one, or the first two.
-#[derive(Drop)]
+#[derive(Clone, Copy)]
 pub enum Claimants {
     Nobody,
     One(u8),

@@ -1,1 +1,2 @@
 // Theorems about the definitions of `claim_window` and `claim_agent`; no code.
+#![tactic(auto)]

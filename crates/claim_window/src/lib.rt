@@ -1,5 +1,7 @@
 // Decoded windows and regions: what a bridge's windows and a device's regions hold, and how far upwards the answer stays the same.
 // `claim_decode` makes them from registers.
+#![tactic(auto)]
+
 pub mod cut;
 pub mod holds;
 pub mod inside;
@@ -7,7 +9,7 @@ pub mod inside;
 use rack::Range;
 
 // The windows of a bridge.
-#[derive(Drop)]
+#[derive(Clone, Copy)]
 pub struct Windows {
     pub memory: Range,
     pub prefetchable: Range,
@@ -18,7 +20,7 @@ pub struct Windows {
 }
 
 // The addresses of a device's region, in the I/O or in the memory space.
-#[derive(Drop)]
+#[derive(Clone, Copy)]
 pub struct Area {
     pub io: bool,
     pub range: Range,

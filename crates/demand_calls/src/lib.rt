@@ -1,1 +1,2 @@
 // Demands 1 and 3 over the open calls; no code.
+#![tactic(auto)]

@@ -1,1 +1,2 @@
 // The worked examples of document 01 as theorems; no code.
+#![tactic(auto)]

@@ -1,1 +1,2 @@
 // The theorems of demand 3, over the definitions of routes and check; no code.
+#![tactic(auto)]

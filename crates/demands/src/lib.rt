@@ -1,1 +1,2 @@
 // The demands, stated and proved; no code.
+#![tactic(auto)]

@@ -1,1 +1,2 @@
 // Theorems about the definitions of `event_run`; no code.
+#![tactic(auto)]

@@ -1,4 +1,5 @@
 // An event on a rack: what it answers and what it leaves in the registers.
+#![tactic(auto)]
 
 pub mod ended;
 pub mod run;
@@ -7,7 +8,7 @@ use check_search::Report;
 use route_bus::Outcome;
 
 // How an access ended.
-#[derive(Drop)]
+#[derive(Clone, Copy)]
 pub enum Ending {
     Data { value: u32 },
     Stored,
@@ -22,7 +23,7 @@ pub enum Ending {
 
 // The answer to an event: how an access ended and the bridges that took it across, what a check says, or who acts from
 // now on.
-#[derive(Drop)]
+#[derive(Clone, Copy)]
 pub enum Answer {
     Ended { crossings: u32, ending: Ending },
     Checked(Report),

@@ -1,1 +1,2 @@
 // Theorems about the definitions of `file_record`; no code.
+#![tactic(auto)]

@@ -1,4 +1,6 @@
 // The walk of a file from record to record, up to the first faulty one.
+#![tactic(auto)]
+
 ghost use Rattle.std.specs.Prelude.{◌≡◌, true, ◌+◌, ◌≤◌, length};
 ghost use Rattle.rack.specs.definitions.Table.{tree_of};
 ghost use Rattle.rack.specs.definitions.First.{◌when◌};

@@ -1,4 +1,5 @@
 // Rack files: records from bytes, and events one at a time. `file_load` walks a file up to its first faulty record.
+#![tactic(auto)]
 
 use rack::table::Table;
 use seat::table::GrantTable;
@@ -8,7 +9,7 @@ pub mod number;
 pub mod record;
 
 // An event as its record gives it: fields are bytes as in the file, so that what refusal 13 refuses can be said.
-#[derive(Drop)]
+#[derive(Clone, Copy)]
 pub enum Event {
     Write {
         bus: u8,
@@ -39,7 +40,7 @@ pub enum Event {
 }
 
 // What the records of a kind are. Unknown comes first: the library reads an element past an array's end as the first variant.
-#[derive(Drop)]
+#[derive(Clone, Copy)]
 pub enum Class {
     Unknown,
     Host,
@@ -52,7 +53,7 @@ pub enum Class {
 // What is known in front of a record, beside the tables of the rack and of its grants: the record's offset, where the register records
 // and where the events begin (0 before the first), and the least node that a register record may name. Or the refusal of the record before
 // it, which is not 0.
-#[derive(Drop)]
+#[derive(Clone, Copy)]
 pub struct Walk {
     pub refusal: u8,
     pub offset: usize,
@@ -63,7 +64,7 @@ pub struct Walk {
 
 // What was read: a refusal and its offset; or 0, the offset at which the events begin, that at which the register records begin, or else
 // the events, the table of the rack and that of its grants.
-#[derive(Drop)]
+#[derive(Clone, Copy)]
 pub struct Loaded {
     pub refusal: u8,
     pub offset: usize,

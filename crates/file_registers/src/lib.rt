@@ -1,4 +1,6 @@
 // Refusals 16 to 18 of a register record in a file. `file_load` asks for them as it walks.
+#![tactic(auto)]
+
 ghost use Rattle.std.specs.Prelude.{◌≡◌, ◌+◌, ◌≤◌, length};
 ghost use Rattle.rack.specs.definitions.Table.{tree_of};
 ghost use Rattle.rack.specs.definitions.First.{◌or◌};

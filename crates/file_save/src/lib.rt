@@ -1,4 +1,5 @@
 // The file of a rack with its registers: host, nodes, seats, and the registers that differ from reset.
+#![tactic(auto)]
 
 pub mod number;
 pub mod record;

@@ -1,4 +1,6 @@
 // The registers that a run of a file starts from: reset, and then those of its register records.
+#![tactic(auto)]
+
 ghost use Rattle.std.specs.Prelude.{◌≡◌, ◌≤◌, length};
 ghost use Rattle.rack.specs.definitions.Table.{tree_of};
 ghost use Rattle.register_image.specs.definitions.Image.{images};

@@ -1,4 +1,5 @@
 // The output of a rack file, in parts: whole lines into a lent buffer.
+#![tactic(auto)]
 
 pub mod fill;
 mod line;
@@ -6,7 +7,7 @@ pub mod refused;
 pub mod start;
 
 // The next event of a file: its offset, its number, which counts from 1, and the seat that acts.
-#[derive(Drop)]
+#[derive(Clone, Copy)]
 pub struct Cursor {
     pub offset: usize,
     pub number: u32,
@@ -14,7 +15,7 @@ pub struct Cursor {
 }
 
 // The bytes that were written, and the cursor after them.
-#[derive(Drop)]
+#[derive(Clone, Copy)]
 pub struct Filled {
     pub len: usize,
     pub next: Cursor,

@@ -1,1 +1,2 @@
 // Theorems about the definitions of `print_file`; no code.
+#![tactic(auto)]

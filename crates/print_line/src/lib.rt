@@ -1,4 +1,6 @@
 // The line of each answer, byte for byte as document 01, 'The program', prints it.
+#![tactic(auto)]
+
 pub mod ending;
 mod field;
 pub mod refused;
@@ -7,7 +9,7 @@ pub mod seat;
 mod text;
 
 // A line is its first `len` bytes.
-#[derive(Drop)]
+#[derive(Clone, Copy)]
 pub struct Line {
     pub bytes: [u8; 96],
     pub len: usize,

@@ -1,4 +1,6 @@
 // A rack: the host's memory and a tree of bridges and devices, as document 01's rack records give it.
+#![tactic(auto)]
+
 ghost use Rattle.std.specs.Prelude.{◌≡◌};
 ghost use Rattle.rack.specs.definitions.Node.{kind_number, kind_from, is_bridge};
 
@@ -6,7 +8,7 @@ pub mod grow;
 pub mod table;
 
 // What a node is; one number each, as the rack file has it (`kind_number`). An older bridge is one of specification revision 1.1.
-#[derive(Drop)]
+#[derive(Clone, Copy)]
 pub enum Kind {
     Device,
     Bridge,
@@ -14,14 +16,14 @@ pub enum Kind {
 }
 
 // A base address region: kind 0 none, 1 I/O, 2 32-bit memory, 3 64-bit memory; it has 2 to the exponent bytes.
-#[derive(Drop)]
+#[derive(Clone, Copy)]
 pub struct Region {
     pub kind: u8,
     pub exponent: u8,
 }
 
 // A bridge, of either kind, or a device. The regions of a bridge are ignored.
-#[derive(Drop)]
+#[derive(Clone, Copy)]
 pub struct Node {
     pub kind: Kind,
     pub parent: u8,
@@ -32,14 +34,14 @@ pub struct Node {
 }
 
 // Addresses from first to last, both in; none where first is above last.
-#[derive(Drop)]
+#[derive(Clone, Copy)]
 pub struct Range {
     pub first: u64,
     pub last: u64,
 }
 
 // What a seat may write of a node: whether a seat record names the two together, and its mask, bit i for dword i.
-#[derive(Drop)]
+#[derive(Clone, Copy)]
 pub struct Grant {
     pub named: bool,
     pub mask: u16,
@@ -47,7 +49,7 @@ pub struct Grant {
 
 // A decoded rack: first and last address of host memory, `count` nodes in file order, and the grants of seats 1 to 15, 96 for each.
 // It may hold anything; crates `rack_refusals` and `seat` say whether it is a rack.
-#[derive(Drop)]
+#[derive(Clone, Copy)]
 pub struct Rack {
     pub first: u64,
     pub last: u64,

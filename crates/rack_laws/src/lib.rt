@@ -1,1 +1,2 @@
 // Theorems about the definitions of `rack`; no code.
+#![tactic(auto)]

@@ -1,4 +1,6 @@
 // Refusals 6 to 10 of a decoded rack: node by node, the lowest number within a node.
+#![tactic(auto)]
+
 ghost use Rattle.std.specs.Prelude.{◌≡◌};
 ghost use Rattle.rack.specs.definitions.Table.{node_at, tree_of};
 ghost use Rattle.rack.specs.definitions.Refusal.{too_many, bad_parent, high_device, same_slot, taken_device, region_range, regions_range, bad_region, node_refusal, rack_refusal};

@@ -1,5 +1,7 @@
 // rackrun: reads a rack file from standard input, checks all of it, runs it from the registers that it holds, else from reset, and prints a
 // line an event.
+#![tactic(auto)]
+
 ghost use Rattle.std.specs.Prelude.{◌≡◌, false, ◌+◌, ◌*◌, ◌≤◌, length, take, replicate};
 ghost use Rattle.rack.specs.definitions.Table.{tree_of};
 ghost use Rattle.rack.specs.definitions.Tree.{bridge_count, device_count};
@@ -25,14 +27,14 @@ use rack::table::{Table, bridges_below, count_of};
 use seat::table::GrantTable;
 
 // How many bytes of a file's output are written, and what is left of it.
-#[derive(Drop)]
+#[derive(Clone, Copy)]
 struct Progress {
     done: usize,
     rest: Rest,
 }
 
 // How far it is written, or that it could not be.
-#[derive(Drop)]
+#[derive(Clone, Copy)]
 enum Printed {
     UpTo(Progress),
     Failed,
@@ -113,7 +115,7 @@ fn print_loaded(file: &[u8], l: Loaded, bridges: &mut [u8], devices: &mut [u8]) 
 }
 
 // How many bytes the registers of a rack's bridges take, and those of its devices.
-#[derive(Drop)]
+#[derive(Clone, Copy)]
 struct Room {
     bridges: usize,
     devices: usize,
@@ -180,7 +182,7 @@ fn input_room() -> [u8; 65537]
 }
 
 // Standard input: how many bytes it has, or that it could not be read.
-#[derive(Drop)]
+#[derive(Clone, Copy)]
 enum Input {
     Read(usize),
     Failed,

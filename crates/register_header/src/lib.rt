@@ -1,4 +1,6 @@
 // The registers of one node: header tables, the byte law, register reads and writes; `register_access` sets status bits and sizes regions.
+#![tactic(auto)]
+
 pub mod bridge_tables;
 pub mod byte;
 pub mod device_tables;
@@ -12,7 +14,7 @@ pub mod tables;
 
 // What a bridge can do beyond the least that a bridge must: an I/O window above 64 KiB, a prefetchable window above 4 GiB, and VGA
 // I/O decoded by 16 bits.
-#[derive(Drop)]
+#[derive(Clone, Copy)]
 pub struct Options {
     pub io32: bool,
     pub prefetchable64: bool,
@@ -20,14 +22,14 @@ pub struct Options {
 }
 
 // A side of a bridge: its primary bus, which it sits on, or its secondary bus, which it holds.
-#[derive(Drop)]
+#[derive(Clone, Copy)]
 pub enum Side {
     Primary,
     Secondary,
 }
 
 // Bits 11, 12 and 13 of a status register.
-#[derive(Drop)]
+#[derive(Clone, Copy)]
 pub enum StatusBit {
     SignaledTargetAbort,
     ReceivedTargetAbort,

@@ -1,1 +1,2 @@
 // Theorems about the definitions of `register_image`; no code.
+#![tactic(auto)]

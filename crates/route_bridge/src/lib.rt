@@ -1,4 +1,6 @@
 // What a bridge makes of the route from the bus on its other side.
+#![tactic(auto)]
+
 ghost use Rattle.std.specs.Prelude.{◌≡◌, ◌+◌, ◌<◌, get_or};
 ghost use Rattle.rack.specs.definitions.Table.{tree_of};
 ghost use Rattle.register_image.specs.definitions.Image.{images, result_of, view};

@@ -1,10 +1,12 @@
 // What one bus does with an access. `route_bridge` is what one bridge does with it, `route` the cycle of the two.
+#![tactic(auto)]
+
 pub mod look;
 
 use claim_agent::Space;
 
 // An access: a memory or I/O address, or a bus number with devfn (device times 8 plus function), register, byte enables and data.
-#[derive(Drop)]
+#[derive(Clone, Copy)]
 pub struct Access {
     pub space: Space,
     pub write: bool,
@@ -16,7 +18,7 @@ pub struct Access {
 }
 
 // What came of an unclaimed access.
-#[derive(Drop)]
+#[derive(Clone, Copy)]
 pub enum Outcome {
     Abort,
     Done,
@@ -25,7 +27,7 @@ pub enum Outcome {
 
 // Where a route ends: at the node whose register a Type 0 access names, at the region or the host memory that holds the
 // address, unclaimed, in a clash, as a special cycle; or nothing was driven.
-#[derive(Drop)]
+#[derive(Clone, Copy)]
 pub enum End {
     Node(u8),
     Owner { node: u8, region: u8, offset: u64 },
@@ -37,14 +39,14 @@ pub enum End {
 }
 
 // How often a bridge took the access across, and where it ended.
-#[derive(Drop)]
+#[derive(Clone, Copy)]
 pub struct Route {
     pub crossings: u32,
     pub end: End,
 }
 
 // What is seen on a bus: where the access ends there, or the bridge that takes it across.
-#[derive(Drop)]
+#[derive(Clone, Copy)]
 pub enum Sight {
     Ends(End),
     Crosses(u8),

@@ -1,1 +1,2 @@
 // Theorems about the definitions of `route`; no code.
+#![tactic(auto)]

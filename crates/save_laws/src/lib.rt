@@ -1,1 +1,2 @@
 // Theorems alone: what is read from a saved file.
+#![tactic(auto)]

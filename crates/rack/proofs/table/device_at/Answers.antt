@@ -1,0 +1,6 @@
+use Rattle.rack.specs.definitions.Table.{node_at}
+use Rattle.rack.proofs.table.device_at.Goals as goal
+
+pub returns : goal.returns
+unfolding node_at
+returns c = simp c.low_at.ensures
