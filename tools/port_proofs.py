@@ -95,6 +95,13 @@ def turn_paths(body, function, place, left):
         if not rest:
             return "c"
         head, *tail = rest[1:].split(".")
+        for arm in function.rows["arms"]:
+            for field, old, way in arm[2] if arm else []:
+                if way and plain(old) == plain(head) and tail[: len(way)] == way:
+                    return "c." + ".".join([arm[0], field, *tail[len(way) :]])
+        for old, new in function.rows["args"]:
+            if f".{head} .{'.'.join(tail[:1])}" == old:
+                return "c" + new.replace(" ", "") + "".join("." + t for t in tail[1:])
         if head in ("args", "requires", "ranges", "type_inv"):
             return "c." + ".".join([head, *tail])
         if re.fullmatch(r"t\d+", head):

@@ -1,6 +1,6 @@
 -- A table that is filled: what an empty one holds, one with a record more, and one with the grants of a rack.
 use mathlib.Core.Path.{◌≡◌, refl, sym, ap, ◌∙◌}
-use mathlib.Core.Bool.{Bool, true, false, cond, ◌&&◌, and_false, true≢false}
+use mathlib.Core.Bool.{Bool, true, false, cond, ◌&&◌, and-false, true≢false}
 use mathlib.Core.List.{List}
 use Prim.Native.Nat.{ℕ, zero, suc, ◌+◌, ◌%◌, ◌≤◌, ◌<◌}
 use native.Mathlib.Omega.{arith}
@@ -109,7 +109,7 @@ grants_to rack k =
     }
 
 pub to_none : (rack : Rack) {g : Grants} → g ≡ no_grants → g ≡ grants_to rack 0
-to_none rack e = e ∙ grants_same (λ seat node. rw (le-ltb (slot seat node) 0 (omega arith), and_false (is_pair seat node))) refl
+to_none rack e = e ∙ grants_same (λ seat node. rw (le-ltb (slot seat node) 0 (omega arith), and-false (is_pair seat node))) refl
 
 pub to_more : (rack : Rack) (table : List ℕ) {after : List ℕ} {k number : ℕ} → grants_of table ≡ grants_to rack k → k < 1440
     → (get_or rack.grants k no_grant).mask < 65536 → number ≡ grant_number (get_or rack.grants k no_grant) → length table ≡ 1441

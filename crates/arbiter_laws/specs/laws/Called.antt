@@ -1,7 +1,7 @@
 -- The theorems over the open call: when it refuses, what it grants, and that the state it gives is accepted again.
 use Rattle.std.specs.Prelude.{◌≡◌, refl, ℕ, zero, suc, ◌+◌, ◌*◌, ◌/◌, ◌%◌, ◌^◌, ◌≤◌, ◌<◌, false, cond, List, [], ◌∷◌, eqb}
 use Rattle.std.proofs.Common.{sym, ap, subst, mod-lt, arith, pow_pos, shr_lt}
-use Rattle.std.proofs.Math.Bool.{or_true}
+use Rattle.std.proofs.Math.Bool.{or-true}
 use Rattle.std.proofs.Math.Pow.{split}
 use borrow.Author.Tests.{eqb-true, eqb-false, leb-false, lt-leb}
 use Rattle.arbiter.specs.declared.State.{State}
@@ -67,7 +67,7 @@ module _ (mask requests : ℕ) (s : State) where
 -- the first state is one for every mask
 pub first_accepted : (mask : ℕ) → mask < 1024 → Accepted mask first
 unfolding is_state
-first_accepted mask h = record { few = h; high = or_true (is_in none (high_ring mask)); low = or_true (is_in none (low_ring mask)) }
+first_accepted mask h = record { few = h; high = or-true (is_in none (high_ring mask)); low = or-true (is_in none (low_ring mask)) }
 
 -- a caller's run is the run
 pub answers_grant : (mask : ℕ) (s : State) (list : List ℕ) → Accepted mask s → Sets list → members_in (answers mask s list) ≡ grants mask s list

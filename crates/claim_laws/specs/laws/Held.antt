@@ -3,7 +3,7 @@
 use Rattle.std.specs.Prelude.{◌≡◌, Bool, true, false, not, List, [], ◌∷◌, ℕ, ◌≤◌, ◌<◌, leb, eqb, get_or}
 use Rattle.std.proofs.Math.Path.{refl}
 use Rattle.std.proofs.Common.{ap, ◌∙◌, inl, inr, arith}
-use Rattle.std.proofs.Math.Bool.{and_false}
+use Rattle.std.proofs.Math.Bool.{and-false}
 use borrow.Author.Tests.{ne_eqb, eq-eqb, lt-leb}
 use Rattle.rack.specs.declared.Node.{Node}
 use Rattle.rack.specs.definitions.Node.{is_bridge}
@@ -31,7 +31,7 @@ use Rattle.claim_agent.specs.definitions.Claimants.{claimants_in, claimants}
 
 -- the command byte, and a bridge's two bus numbers, are 0 at reset
 command_reset : (n : Node) → reset_byte n COMMAND ≡ 0
-command_reset n = zero_reset n COMMAND refl (and_false (not (is_bridge n.kind))) refl refl refl
+command_reset n = zero_reset n COMMAND refl (and-false (not (is_bridge n.kind))) refl refl refl
 
 module _ (n : Node) (bridge : is_bridge n.kind ≡ true) where
   secondary_reset : reset_byte n SECONDARY_BUS ≡ 0
@@ -71,7 +71,7 @@ module _ (part : List ℕ) (command : get_or part COMMAND 0 ≡ 0) where
     unfolding primary_claims bridge_of
     quiet_primary first last space.Memory a h = rw command
     quiet_primary first last space.Io a h = rw command
-    quiet_primary first last space.Configuration a h = rw (first, last, lt-leb a 0 (omega arith)) (and_false (leb 0 a))
+    quiet_primary first last space.Configuration a h = rw (first, last, lt-leb a 0 (omega arith)) (and-false (leb 0 a))
 
 -- nor does a node claim that is missing, whose part is empty
 pub missing_claims : (t : Tree) (im : Images) (g : ℕ) → t.count ≤ g → (g ≡ host → ⊥) → (s : Space) (bus a : ℕ) → Asked s a

@@ -3,7 +3,7 @@
 use Rattle.std.specs.Prelude.{◌≡◌, Bool, ◌&&◌, cond, List}
 use Rattle.std.proofs.Math.Path.{refl, sym, ap}
 use Rattle.std.proofs.Common.{◌∙◌, arith, lit<}
-use Rattle.std.proofs.Math.Bool.{true, false, and-true, and_false}
+use Rattle.std.proofs.Math.Bool.{true, false, and-true, and-false}
 use Prim.Native.Nat.{ℕ, ◌+◌, ◌-◌, ◌*◌, ◌/◌, ◌%◌, ◌^◌, ◌≤◌, ◌<◌, min}
 use Rattle.std.specs.Int.Bits.{bit_and}
 use Rattle.std.proofs.lemmas.Nat.{and_mask}
@@ -59,12 +59,12 @@ module _ (o : Options) (part : List ℕ) (bytes : (k : ℕ) → get_or part k 0 
   -- and so do its VGA addresses
   pub inside_io_16 : o.io32 ≡ false → 0x10000 ≤ a → inside_io (windows_of o part) a ≡ false
   unfolding inside_io
-  inside_io_16 off h = rw (io_16 off h, le-ltb a 0x10000 h) (and_false (windows_of o part).vga)
+  inside_io_16 off h = rw (io_16 off h, le-ltb a 0x10000 h) (and-false (windows_of o part).vga)
 
   -- so it takes no such port down, and every one up under bit 2
   pub io_not_down : o.io32 ≡ false → 0x10000 ≤ a → primary_claims (bridge_of o part) Io a ≡ false
   unfolding primary_claims bridge_of
-  io_not_down off h = rw (inside_io_16 off h) (and_false (bridge_of o part).io)
+  io_not_down off h = rw (inside_io_16 off h) (and-false (bridge_of o part).io)
 
   pub io_up : o.io32 ≡ false → 0x10000 ≤ a → secondary_claims (bridge_of o part) Io a ≡ (bridge_of o part).master
   unfolding secondary_claims bridge_of
@@ -83,12 +83,12 @@ module _ (o : Options) (part : List ℕ) (bytes : (k : ℕ) → get_or part k 0 
   inside_memory_32 off h =
       let below : (memory_of part).last < a = omega (arith, bytes MEMORY_LIMIT, bytes (MEMORY_LIMIT + 1)) in
       rw (above_last (memory_of part) a below, prefetchable_32 off h, above_last vga_memory a (omega arith))
-      (and_false (windows_of o part).vga)
+      (and-false (windows_of o part).vga)
 
   -- so it takes no such address down, and every one up under bit 2
   pub memory_not_down : o.prefetchable64 ≡ false → 2 ^ 32 ≤ a → primary_claims (bridge_of o part) Memory a ≡ false
   unfolding primary_claims bridge_of
-  memory_not_down off h = rw (inside_memory_32 off h) (and_false (bridge_of o part).memory)
+  memory_not_down off h = rw (inside_memory_32 off h) (and-false (bridge_of o part).memory)
 
   pub memory_up : o.prefetchable64 ≡ false → 2 ^ 32 ≤ a → secondary_claims (bridge_of o part) Memory a ≡ (bridge_of o part).master
   unfolding secondary_claims bridge_of

@@ -2,7 +2,7 @@
 use Rattle.std.specs.Prelude.{◌≡◌, ◌&&◌, ℕ, eqb}
 use Rattle.std.proofs.Math.Path.{refl}
 use Rattle.std.proofs.Common.{ap, ◌∙◌, true≢false, eqb-true}
-use Rattle.std.proofs.Math.Bool.{true, false, and_false}
+use Rattle.std.proofs.Math.Bool.{true, false, and-false}
 use mathlib.Core.List.{List, [], ◌∷◌}
 use Rattle.std.proofs.lemmas.Bool.{eqb-false}
 use Rattle.rack.specs.laws.Bools.{tested}
@@ -46,7 +46,7 @@ module _ (t : Tree) (st : Stored t) where
     accessed_same : (x : Access) (i : ℕ) → is_configuration x.space ≡ false → SameButStatus t im (accessed t by im x i).after
     accessed_same x i other =
         let o = access t im x i in
-        rw (kept_after t by o.after x o.answer.crossings o.answer.end (ap (λ b. x.write && b) (access_none ends_at_node node_fails refl t x other im i) ∙ and_false x.write))
+        rw (kept_after t by o.after x o.answer.crossings o.answer.end (ap (λ b. x.write && b) (access_none ends_at_node node_fails refl t x other im i) ∙ and-false x.write))
         (access_same t st x im right i)
 
     run_same : (e : Event) → WritesNone e → SameButStatus t im (event_run t by im e).after

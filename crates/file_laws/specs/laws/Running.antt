@@ -3,7 +3,7 @@
 use Rattle.std.specs.Prelude.{◌≡◌, true, false, ◌&&◌, ◌||◌, List, ◌⊎◌, ltb, eqb, length}
 use Rattle.std.proofs.Math.Path.{refl, sym, ap}
 use Rattle.std.proofs.Common.{◌∙◌, true≢false, lit<}
-use Rattle.std.proofs.Math.Bool.{and_false}
+use Rattle.std.proofs.Math.Bool.{and-false}
 use Rattle.std.proofs.lemmas.Bool.{false≢true}
 use Rattle.std.proofs.Math.Logic.{inl, inr, ⊎_elim}
 use Prim.Native.Nat.{ℕ, zero, suc, ◌+◌, ◌≤◌, ◌<◌}
@@ -60,7 +60,7 @@ module _ (b : List ℕ) (s : Reading) where
     after_events n =
         let c = class_in b s.offset in
         left c (shape_known true b c s.offset s.registers s.events (shape b s z))
-        (rw (ne_eqb s.events 0 n, and_false (eqb s.registers 0)) at (in_place b s z))
+        (rw (ne_eqb s.events 0 n, and-false (eqb s.registers 0)) at (in_place b s z))
       where
         left : (c : Class) → is_known true c ≡ true → is_rack c && true || is_a class.Registers c && true ≡ false → is_a class.Event c ≡ true
         left class.Unknown k f = absurd (false≢true k)

@@ -2,7 +2,7 @@
 use Rattle.std.specs.Prelude.{◌≡◌, refl, Bool, true, false, ◌&&◌, List, [], ◌∷◌, ℕ, ◌+◌, ◌≤◌, ◌<◌, length, get_or}
 use Rattle.std.proofs.Math.Path.{sym, ap}
 use Rattle.std.proofs.Common.{◌∙◌, true≢false, arith, lit<}
-use Rattle.std.proofs.Math.Bool.{and_false, and-true}
+use Rattle.std.proofs.Math.Bool.{and-false, and-true}
 use Rattle.std.proofs.lemmas.Bool.{false≢true}
 use borrow.Author.Tests.{eq-eqb, eqb-true, ltb-false, not-false}
 use Rattle.rack.specs.declared.Node.{Node}
@@ -197,19 +197,19 @@ module _ (whole : Bool) (b : List ℕ) (s : Reading) {f : ℕ} {c : Class}
   module _ (none : f ≡ 0) where
     fault_node : class_in b s.offset ≡ class.Node → record_fault whole b s ≡ node_fault b s.offset s.tree
     unfolding record_fault first
-    fault_node k = rw (eq-eqb _ 0 (sym shape_is ∙ none), k, and_false whole) (or_last (node_fault b s.offset s.tree))
+    fault_node k = rw (eq-eqb _ 0 (sym shape_is ∙ none), k, and-false whole) (or_last (node_fault b s.offset s.tree))
 
     fault_event : class_in b s.offset ≡ class.Event → record_fault whole b s ≡ event_fault b s.offset s.tree s.grants
     unfolding record_fault first
     fault_event k =
-        rw (eq-eqb _ 0 (sym shape_is ∙ none), k, and_false whole)
+        rw (eq-eqb _ 0 (sym shape_is ∙ none), k, and-false whole)
         (ap (λ n. field_fault b s.offset s.tree or n) (or_last (unknown_fault b s.offset s.grants)))
 
     fault_registers : class_in b s.offset ≡ class.Registers
         → record_fault whole b s ≡ register_fault b s.offset s.tree s.registers s.least
     unfolding record_fault first
     fault_registers k =
-        rw (eq-eqb _ 0 (sym shape_is ∙ none), k, and_false whole)
+        rw (eq-eqb _ 0 (sym shape_is ∙ none), k, and-false whole)
         (ap (λ n. place_fault b s.offset s.tree s.least or value_fault b s.offset s.tree or n)
         (or_last (agreement_fault b s.offset s.tree s.registers)))
 
@@ -219,7 +219,7 @@ module _ (whole : Bool) (b : List ℕ) (s : Reading) {f : ℕ} {c : Class}
 
     fault_host : class_in b s.offset ≡ class.Host → record_fault whole b s ≡ 0
     unfolding record_fault first
-    fault_host k = rw (eq-eqb _ 0 (sym shape_is ∙ none), k, and_false whole)
+    fault_host k = rw (eq-eqb _ 0 (sym shape_is ∙ none), k, and-false whole)
 
     module _ {r : Walk} {table grants : List ℕ} {next : Reading} {x : Bool} where
       pub node_goes : x ≡ is_a class.Node c → x ≡ true → Steps r table grants (node_fault b s.offset s.tree) next

@@ -2,7 +2,7 @@
 use Rattle.std.specs.Prelude.{◌≡◌, Bool, false, ◌&&◌, ◌⊎◌, ℕ, ◌≤◌, ◌<◌, eqb, length}
 use Rattle.std.proofs.Math.Path.{refl}
 use Rattle.std.proofs.Common.{sym, ap, ◌∙◌, ⊎_elim}
-use Rattle.std.proofs.Math.Bool.{true, not, cond, and_false}
+use Rattle.std.proofs.Math.Bool.{true, not, cond, and-false}
 use Rattle.std.proofs.lemmas.Bool.{false≢true, eqb-false}
 use Rattle.std.proofs.Math.Logic.{inl, inr}
 use mathlib.Core.List.{List, [], ◌∷◌}
@@ -65,13 +65,13 @@ module _ (t : Tree) (im : Images) where
   module _ (ok : rack_refusal t ≡ 0) (bus : ℕ) (is : IsBus t bus) (free : held_bus t im bus ≡ false) where
     -- on a bus that is not held no agent is
     pub free_agent : (g : ℕ) → OnBus t bus g → held_agent t im g ≡ false
-    free_agent g (inr n) = rw (n.1, free) (and_false (not (eqb g host)))
+    free_agent g (inr n) = rw (n.1, free) (and-false (not (eqb g host)))
     free_agent g (inl e) =
         rw e
         (⊎_elim (λ r. rw r)
         (λ r.
         let s = neither (resets t im bus) (is_held t im bus) (sym (above_step t ok (resets t im) bus r.0) ∙ free) in
-        rw s.1 (and_false (not (eqb bus host))))
+        rw s.1 (and-false (not (eqb bus host))))
         is)
 
     -- so the others are all of its agents, as claimants and as drivers

@@ -1,7 +1,7 @@
 -- Refusals 11, 12 and 18 of two images say what is false in them, and the images are accepted exactly where nothing is.
 use Rattle.std.specs.Prelude.{◌≡◌, true, false, ℕ, ◌*◌, eqb, length}
 use Rattle.std.proofs.Common.{sym, ap, ◌∙◌, true≢false}
-use Rattle.std.proofs.Math.Bool.{not, false≢true, and_false}
+use Rattle.std.proofs.Math.Bool.{not, false≢true, and-false}
 use Rattle.std.proofs.Math.Logic.{inl, inr, ⊎_elim}
 use borrow.Author.Tests.{eqb-false, eq-eqb, ne_eqb}
 use Rattle.rack.specs.definitions.Tree.{Tree, bridge_count, device_count, parent_of}
@@ -30,7 +30,7 @@ module _ (t : Tree) (im : Images) where
   unfolding lengths_wrong
   differs_length =
       ⊎_elim (λ b. rw (ne_eqb (length im.bridges) (64 * bridge_count t) b))
-      (λ d. rw (ne_eqb (length im.devices) (64 * device_count t) d, and_false (eqb (length im.bridges) (64 * bridge_count t))))
+      (λ d. rw (ne_eqb (length im.devices) (64 * device_count t) d, and-false (eqb (length im.bridges) (64 * bridge_count t))))
 
   -- a fixed bit
   pub fixed_differs : fixed_wrong t im ≡ true → (i : ℕ) × (at : ℕ) × FixedDiffers t im i at

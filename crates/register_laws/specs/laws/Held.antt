@@ -3,7 +3,7 @@ use Rattle.std.specs.Prelude.{◌≡◌, refl, true, false, cond, not, ◌⊎◌
 use Rattle.std.proofs.Common.{sym, ◌∙◌, inl, inr, ⊎_elim, arith, get_or-set_other, eqb-true, ltb-true, ltb-false}
 use Rattle.std.proofs.Math.Path.{ap}
 use Rattle.std.proofs.lemmas.Bool.{false≢true, eqb-false}
-use Rattle.std.proofs.Math.Bool.{and_false}
+use Rattle.std.proofs.Math.Bool.{and-false}
 use mathlib.Core.List.{List}
 use Rattle.std.specs.Int.Bits.{bit_and}
 use Rattle.std.proofs.Math.ListN.{get_or}
@@ -35,7 +35,7 @@ use Rattle.register_laws.specs.laws.Above.{above_either, above_more, above_same}
 
 -- bit 6 is clear at reset
 control_byte : (n : Node) → reset_byte n BRIDGE_CONTROL ≡ 0
-control_byte n = zero_reset n BRIDGE_CONTROL refl (and_false (not (is_bridge n.kind))) refl refl refl
+control_byte n = zero_reset n BRIDGE_CONTROL refl (and-false (not (is_bridge n.kind))) refl refl refl
 
 -- a status bit stands in another byte than bridge control
 status_place : (k : Kind) (side : Side) → (BRIDGE_CONTROL ≡ status_at k side → ⊥)

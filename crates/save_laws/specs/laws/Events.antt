@@ -1,7 +1,7 @@
 -- A saved file with events after it: they leave the rack, its grants and the places of its records as they are.
 use Rattle.std.specs.Prelude.{◌≡◌, refl, true, false, ◌⊎◌, List, ◌++◌, ℕ, ◌+◌, ◌<◌, eqb, length}
 use Rattle.std.proofs.Common.{sym, ap, ◌∙◌, true≢false, inl, inr, ⊎_elim, arith, length-append, ne_eqb}
-use Rattle.std.proofs.Math.Bool.{and_false}
+use Rattle.std.proofs.Math.Bool.{and-false}
 use Rattle.std.proofs.lemmas.Bool.{false≢true}
 use Rattle.rack.specs.definitions.First.{◌or◌}
 use Rattle.rack.specs.definitions.Tree.{Tree}
@@ -26,9 +26,9 @@ use Rattle.save_laws.specs.laws.ReadBack.{start_is, end_is, saved_goes, first_or
 after_event : (c : Class) (registers events : ℕ) → (events ≡ 0 → ⊥) → follows_later c registers events ≡ false → is_known true c ≡ true
     → c ≡ class.Event
 after_event class.Unknown registers events n f k = absurd (false≢true k)
-after_event class.Host registers events n f k = absurd (true≢false (rw (ne_eqb events 0 n, and_false (eqb registers 0)) at f))
-after_event class.Node registers events n f k = absurd (true≢false (rw (ne_eqb events 0 n, and_false (eqb registers 0)) at f))
-after_event class.Seat registers events n f k = absurd (true≢false (rw (ne_eqb events 0 n, and_false (eqb registers 0)) at f))
+after_event class.Host registers events n f k = absurd (true≢false (rw (ne_eqb events 0 n, and-false (eqb registers 0)) at f))
+after_event class.Node registers events n f k = absurd (true≢false (rw (ne_eqb events 0 n, and-false (eqb registers 0)) at f))
+after_event class.Seat registers events n f k = absurd (true≢false (rw (ne_eqb events 0 n, and-false (eqb registers 0)) at f))
 after_event class.Registers registers events n f k = absurd (true≢false (rw (ne_eqb events 0 n) at f))
 after_event class.Event registers events n f k = refl
 

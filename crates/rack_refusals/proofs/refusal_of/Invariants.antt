@@ -1,0 +1,11 @@
+use Prim.Native.Nat.{◌-◌}
+use Rattle.rack.specs.laws.FirstLaws.{NoneBefore, none_yet, none_next, first_found, none_found}
+use Rattle.rack.specs.definitions.Refusal.{node_refusal}
+use Rattle.rack.specs.definitions.Table.{node_at}
+use Rattle.rack_refusals.proofs.refusal_of.Given as goal
+
+abbrev pub invariant-loop-i : goal.invariant-loop-i
+invariant-loop-i l = NoneBefore (node_refusal (node_at l.table)) l.end l.i
+
+abbrev pub decreases-loop-i : goal.decreases-loop-i
+decreases-loop-i l = l.end - l.i
