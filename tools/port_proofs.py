@@ -116,8 +116,24 @@ def turn_paths(body, function, place, left):
     return re.sub(r"(?<![\w.-])c((?:\.before)*)((?:\.[\w'-]+)*)(?![\w-])", one, body)
 
 
-def names_bound(args):
-    return args.split()
+def renamed(term, names):
+    """The term with its free names turned; a name that a λ binds stays to the end of that λ."""
+    out, at, depth, hidden = [], 0, 0, []
+    for m in re.finditer(rf"λ ([^.]*)\.|[()]|{WORD}", term):
+        out.append(term[at : m.start()])
+        at = m.end()
+        word = m[0]
+        if m[1] is not None:
+            hidden.append((depth, re.findall(WORD, m[1])))
+        elif word == "(":
+            depth += 1
+        elif word == ")":
+            depth -= 1
+            hidden = [h for h in hidden if h[0] <= depth]
+        elif word in names and term[m.start() - 1 : m.start()] != "." and not any(word in h[1] for h in hidden):
+            word = names[word]
+        out.append(word)
+    return "".join(out) + term[at:]
 
 
 def convert(crate, path, folder, rows, left):
@@ -198,7 +214,7 @@ def convert(crate, path, folder, rows, left):
                     finals[x] = "l." + x
             if sorted(v for v in variables) != sorted(x for x in stay):
                 left.append(f"{path}: {inv[1]}: binds {' '.join(stay)}; the loop has {' '.join(variables)}")
-            term = re.sub(WORD, lambda w: finals.get(w[0], w[0]) if not (w.start() and w.string[w.start() - 1] == ".") else w[0], term)
+            term = renamed(term, finals)
             kind = inv[2] + "-" + new
             sep = "\n    " if "\n" in term or len(term) > 110 else " "
             invariants.append("\n".join([*lead, f"abbrev pub {kind} : goal.{kind}", f"{kind} l ={sep}{term}"]))

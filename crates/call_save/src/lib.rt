@@ -29,7 +29,7 @@ fn copy_start(file: &[u8], n: usize, out: &mut [u8])
     requires { (n ≤ length file.now) × (n ≤ length out.old) }
     ensures { out.new ≡ take n file.now ++ drop n out.old }
 {
-    bytes::copy(&file[..n], out);
+    out[..n].copy_from_slice(&file[..n]);
 }
 
 // The file's length, or the refusal.

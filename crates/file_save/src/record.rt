@@ -97,7 +97,7 @@ fn put_part(out: &mut [u8], at: usize, part: &[u8]) -> usize
     ensures { Put at part.now out.old result out.new }
 {
     let end = at + part.len();
-    bytes::copy(part, &mut out[at..end]);
+    out[at..end].copy_from_slice(part);
     end
 }
 

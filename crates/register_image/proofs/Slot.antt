@@ -29,16 +29,6 @@ pub put_back : (l : List ℕ) (p : ℕ) (f : List ℕ → List ℕ) {q : List �
 unfolding on_part
 put_back l p f h e = rw (e, width p, lt-ltb p (length l / 64) h, drop-drop 64 (64 * p) l)
 
--- 64 bytes that were copied over a part stand in its place
-pub copied_in : (l bytes : List ℕ) (p : ℕ) {q : List ℕ} → p < length l / 64 → length bytes ≡ 64
-    → q ≡ take (length bytes) bytes ++ drop (length bytes) (take (64 * p + 64 - 64 * p) (drop (64 * p) l))
-    → put_mid (64 * p) (64 * p + 64 - 64 * p) l q ≡ on_part l p (λ part. bytes)
-copied_in l bytes p h long e =
-    let part = take (64 * p + 64 - 64 * p) (drop (64 * p) l) in
-    let room : 64 ≤ length (drop (64 * p) l) = omega (arith, length-drop (64 * p) l) in
-    let same : length part ≡ length bytes = rw (width p) (length-take-le 64 (drop (64 * p) l) room ∙ sym long) in
-    put_back l p (λ part. bytes) h (copied_whole bytes part same e)
-
 pub untouched : (l : List ℕ) (p : ℕ) (f : List ℕ → List ℕ) → length l / 64 ≤ p → l ≡ on_part l p f
 unfolding on_part
 untouched l p f h = rw (le-ltb p (length l / 64) h)

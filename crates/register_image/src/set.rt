@@ -10,7 +10,7 @@ fn set_at(image: &mut [u8], place: usize, bytes: &[u8])
     ensures { image.new ≡ on_part image.old place (λ part. bytes.now) }
 {
     if place < image.len() / 64 {
-        bytes::copy(bytes, &mut image[64 * place..64 * place + 64]);
+        image[64 * place..64 * place + 64].copy_from_slice(bytes);
     }
 }
 

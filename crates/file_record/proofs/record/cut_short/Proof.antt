@@ -14,7 +14,7 @@ add-end c = search rules
 
 returns : tie.Need-returns
 unfolding cut_short
-returns c = simp (← c.before.byte_at.ensures, ← c.type_size.ensures.0)
+returns c = simp (← c.before.byte_at.ensures, ← c.size-of.ensures.0)
 
 pub cut-short-spec : {M : Type 1} → statement M
 cut-short-spec = tie.close (tie.spec byte-at-requires size-of-requires add-end returns)
