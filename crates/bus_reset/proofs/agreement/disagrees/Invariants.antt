@@ -1,0 +1,12 @@
+use Prim.Native.Nat.{◌-◌}
+use Rattle.rack.specs.definitions.Table.{tree_of}
+use Rattle.rack.specs.laws.CountLaws.{NoneYet, none_yet, some_next, some_found, some_none}
+use Rattle.register_image.specs.definitions.Image.{images}
+use Rattle.bus_reset.specs.definitions.Agreement.{node_disagrees}
+use Rattle.bus_reset.proofs.agreement.disagrees.Given as goal
+
+abbrev pub invariant-loop-i : goal.invariant-loop-i
+invariant-loop-i l = NoneYet (node_disagrees (tree_of l.table) (images l.bridges l.devices)) l.count l.i
+
+abbrev pub decreases-loop-i : goal.decreases-loop-i
+decreases-loop-i l = l.count - l.i

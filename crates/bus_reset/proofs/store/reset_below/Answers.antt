@@ -1,0 +1,14 @@
+use borrow.Author.Rules.{rules}
+use mathlib.Core.Path.{◌≡◌, refl}
+use Prim.Native.Nat.{◌-◌}
+use Rattle.register_image.specs.laws.ResetTurns.{ResetYet, reset_none, reset_next, reset_all}
+use Rattle.bus_reset.proofs.store.reset_below.Goals as goal
+
+pub loop-i-init : goal.loop-i-init
+loop-i-init c = (refl, refl, search (reset_none, rules))
+
+pub loop-i-preserved : goal.loop-i-preserved
+loop-i-preserved c = (search rules, search rules, search (reset_next, rules))
+
+pub returns : goal.returns
+returns c = search (reset_all, rules)

@@ -1,0 +1,13 @@
+use Prim.Native.Nat.{◌-◌}
+use Rattle.rack.specs.definitions.Table.{tree_of}
+use Rattle.register_image.specs.definitions.Image.{images}
+use Rattle.check_search.specs.definitions.Check.{driven_by}
+use Rattle.check_search.specs.laws.FirstLaws.{NodesYet, nodes_yet, nodes_off, nodes_next, nodes_found, nodes_end}
+use Rattle.check_search.proofs.drivers.nodes_drive.Given as goal
+
+abbrev pub invariant-loop-i : goal.invariant-loop-i
+invariant-loop-i l =
+    NodesYet (tree_of l.table) l.bus (driven_by (tree_of l.table) (images l.bridges l.devices) l.bus l.space l.a) l.count l.i
+
+abbrev pub decreases-loop-i : goal.decreases-loop-i
+decreases-loop-i l = l.count - l.i

@@ -1,0 +1,16 @@
+use borrow.Author.Rules.{rules}
+use Prim.Native.Nat.{◌-◌}
+use Rattle.file_save.proofs.Puts.{Putting, puts_all, puts_room, puts_next, puts_end}
+use Rattle.file_save.proofs.save.put_seats.Goals as goal
+
+pub loop-seat-init : goal.loop-seat-init
+loop-seat-init c = search (puts_all, rules)
+
+pub put_seat_nodes-next-requires : goal.put_seat_nodes-next-requires
+put_seat_nodes-next-requires c = search (puts_room, rules)
+
+pub loop-seat-preserved : goal.loop-seat-preserved
+loop-seat-preserved c = search (puts_next, rules)
+
+pub returns : goal.returns
+returns c = search (puts_end, rules)

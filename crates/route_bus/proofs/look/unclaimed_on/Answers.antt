@@ -1,0 +1,6 @@
+use Rattle.route_bus.proofs.Seen.{abort_seen}
+use borrow.Author.Rules.{rules}
+use Rattle.route_bus.proofs.look.unclaimed_on.Goals as goal
+
+pub returns : goal.returns
+returns c = search (abort_seen, rules)
