@@ -168,12 +168,12 @@ def convert(crate, path, folder, rows, left):
             unfolding = [l for l in rest if l.startswith("unfolding ")]
             rest = [l for l in rest if not l.startswith("unfolding ")]
             body = "\n".join(rest)
-            b = re.match(rf"{re.escape(name)}((?: {WORD})*) =\s*(.*)$", body, re.S)
+            b = re.match(rf"{re.escape(name)}((?: {WORD})*?) =\s*(.*)$", body, re.S)
             if not b:
                 left.append(f"{path}: {name}: not understood")
                 continue
             term = b[2].strip()
-            if term == "search rules":
+            if term == "search rules" and not unfolding:
                 continue
             if new is None:
                 settled = [plain(s) for s in rows["settled"]]
@@ -200,7 +200,7 @@ def convert(crate, path, folder, rows, left):
             at = [i for i, l in enumerate(rows["loops"]) if l[0][0] == old][0]
             changed = rows["changed"][at]
             body = "\n".join(code[1:])
-            b = re.match(rf"{re.escape(inv[1])}((?: {WORD})*) =\s*(.*)$", body, re.S)
+            b = re.match(rf"{re.escape(inv[1])}((?: {WORD})*?) =\s*(.*)$", body, re.S)
             bound = b[1].split()
             term = b[2].strip()
             finals = {}

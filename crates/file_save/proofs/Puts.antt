@@ -44,16 +44,12 @@ put_three {a = a} {b = b} {c = c} p q o e h =
 
 -- a part that was copied in
 pub put_copied : (at : ℕ) (part old : List ℕ) {q : List ℕ} → at + length part ≤ length old
-    → q ≡ take (length part) part ++ drop (length part) (take (at + length part - at) (drop at old))
+    → q ≡ part
     → Put at part old (at + length part) (put_mid at (at + length part - at) old q)
 put_copied at part old {q} h e =
     let n = length part in
     let width : at + n - at ≡ n = omega arith in
-    let room : n ≤ length (drop at old) = omega (arith, length-drop at old) in
-    let target = take (at + n - at) (drop at old) in
-    let long : length target ≡ n = rw width (length-take-le n (drop at old) room) in
-    let whole : q ≡ part = copied_whole part target long e in
-    record { end = refl; out = rw (whole, width, drop-drop n at old) (sym (placed_opened at part old)) }
+    record { end = refl; out = rw (e, width, drop-drop n at old) (sym (placed_opened at part old)) }
 
 -- of the numbers below `end`, those from i on are left: what is written with them is the whole
 module _ (f : ℕ → List ℕ) (end : ℕ) (s : List ℕ) (at : ℕ) (old : List ℕ) where

@@ -119,18 +119,18 @@ else_by (some Pass) q x y r hx hy e = rw (hx Pass refl) (hy r e)
 else_by (some (Fault b s v d g k)) q x y r hx hy e = rw (hx (Fault b s v d g k) refl) (cc)
 
 -- a search of a list that finds what another finds at each member finds what it finds
-pub first_by : {A : Type 0} (f : A → Report) (g : A → Option Report) → ((x : A) (r : Report) → g x ≡ some r → f x ≡ r)
+pub first_by_lem : {A : Type 0} (f : A → Report) (g : A → Option Report) → ((x : A) (r : Report) → g x ≡ some r → f x ≡ r)
     → (l : List A) (r : Report) → first_by g l ≡ some r → first_in f l ≡ r
 unfolding first_by first_in
-first_by f g each [] r e = cc
-first_by f g each (x ∷ l) r e = else_by (g x) (first_by g l) (f x) (first_in f l) r (each x) (first_by f g each l) e
+first_by_lem f g each [] r e = cc
+first_by_lem f g each (x ∷ l) r e = else_by (g x) (first_by g l) (f x) (first_in f l) r (each x) (first_by_lem f g each l) e
 
 -- k stretches were enough: the check
 pub checked : (k : ℕ) (t : Tree) (im : Images) (r : Report) → check_by k t im ≡ some r → check t im ≡ r
 unfolding check_by on_bus_by check bus_report
 checked k t im r e =
-    first_by (bus_report t im) (on_bus_by k t im)
+    first_by_lem (bus_report t im) (on_bus_by k t im)
     (λ bus s.
-    first_by (in_space t im bus) (λ space. sweep_by k t im bus space (first_of space))
+    first_by_lem (in_space t im bus) (λ space. sweep_by k t im bus space (first_of space))
     (λ space u. swept t im bus space k u) (Configuration ∷ Memory ∷ Io ∷ []) s)
     (buses t) r e

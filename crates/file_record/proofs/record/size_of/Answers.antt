@@ -12,10 +12,10 @@ unfolding form_of
 body kind = get_or-map (λ (f : Form). f.body) forms kind no_form
 
 pub overflow_cast-result : goal.overflow_cast-result
-overflow_cast-result c = c.args.kind in omega (arith, body k, body_most k)
+overflow_cast-result c = let k = c.args.kind in omega (arith, body k, body_most k)
 
 pub overflow_add-result : goal.overflow_add-result
-overflow_add-result c = c.args.kind in omega (arith, body k, body_most k)
+overflow_add-result c = let k = c.args.kind in omega (arith, body k, body_most k)
 
 pub returns-then-at-lt14 : goal.returns-then-at-lt14
 returns-then-at-lt14 c =
