@@ -8,8 +8,7 @@ use call_numbers::{put_reply, refuse};
 use file_load::load_alone;
 
 // The check of a rack with its registers. Returns 0, or the refusal's number with `answer` all 0.
-#[unsafe(no_mangle)]
-pub extern "C" fn rack_check<'a>(
+pub fn rack_check<'a>(
     rack: &[u8],
     bridges: &'a [u8],
     devices: &'a [u8],

@@ -8,8 +8,7 @@ use call_file::{open_file, save_bytes};
 
 // The file of a rack with its registers, into a buffer; its length is the answer. Returns 0, or the refusal's number with `answer` all 0 and the
 // buffer untouched.
-#[unsafe(no_mangle)]
-pub extern "C" fn rack_save<'a>(
+pub fn rack_save<'a>(
     rack: &[u8],
     bridges: &'a [u8],
     devices: &'a [u8],
@@ -24,8 +23,7 @@ pub extern "C" fn rack_save<'a>(
 // Both images as a run of a whole file starts from them. The answer is how many bytes stand before its first register record or event, and
 // both node counts. Returns 0, or the refusal's number with both images untouched and `answer` all 0, but for both counts where an image has the
 // wrong length.
-#[unsafe(no_mangle)]
-pub extern "C" fn rack_open(
+pub fn rack_open(
     file: &[u8],
     bridges: &mut [u8],
     devices: &mut [u8],

@@ -9,8 +9,7 @@ use file_load::load_alone;
 use file_record::events::{event_bytes, event_in};
 
 // One event of a rack on its registers, by the acting seat. Returns 0, or the refusal's number with `answer` all 0 and both images untouched.
-#[unsafe(no_mangle)]
-pub extern "C" fn rack_run(
+pub fn rack_run(
     rack: &[u8],
     seat: u8,
     event: &[u8],

@@ -9,8 +9,7 @@ use call_numbers::{put_ends, refuse};
 use file_load::load_alone;
 
 // Both images filled with their reset values. Returns 0, or the refusal's number with both images untouched.
-#[unsafe(no_mangle)]
-pub extern "C" fn rack_reset(rack: &[u8], bridges: &mut [u8], devices: &mut [u8]) -> u8
+pub fn rack_reset(rack: &[u8], bridges: &mut [u8], devices: &mut [u8]) -> u8
     ensures { called result zeros bridges.new devices.new ≡ rack_reset rack.now (images bridges.old devices.old) }
 {
     let l = load_alone(rack);
@@ -29,8 +28,7 @@ pub extern "C" fn rack_reset(rack: &[u8], bridges: &mut [u8], devices: &mut [u8]
 
 // Both ends of window k of a bridge (0 memory, 1 prefetchable, 2 I/O) or of region k of a device: 1, first, last; 0 where it is empty.
 // Returns 0, or the refusal's number with `answer` all 0.
-#[unsafe(no_mangle)]
-pub extern "C" fn rack_window<'a>(
+pub fn rack_window<'a>(
     rack: &[u8],
     bridges: &'a [u8],
     devices: &'a [u8],

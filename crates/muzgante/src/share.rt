@@ -8,8 +8,7 @@ use arbiter::State;
 use call_numbers::put_arbitration;
 
 // One request set on a bus: who is granted, and the state after. Returns 0, or 20 with `answer` all 0.
-#[unsafe(no_mangle)]
-pub extern "C" fn rack_grant(
+pub fn rack_grant(
     mask: u16,
     requests: u16,
     high: u8,

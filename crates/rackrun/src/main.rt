@@ -19,12 +19,12 @@ ghost use Rattle.rackrun.specs.definitions.Written.{IsNext, Stands, Writes, Writ
 
 use file_load::load_file;
 use file_record::Loaded;
-use libc::{STDERR_FILENO, STDIN_FILENO, STDOUT_FILENO};
 use print_output::Rest;
 use print_output::left::{first_rest, is_done};
 use print_output::part::put_part;
 use rack::table::{Table, bridges_below, count_of};
 use seat::table::GrantTable;
+use std::io::{Lock, Print, Read, StdinLock, Stdout};
 
 // How many bytes of a file's output are written, and what is left of it.
 #[derive(Clone, Copy)]
@@ -42,11 +42,18 @@ enum Printed {
 
 // Writes the next n bytes of a file's output, of which `done` are written; `rest` is left then. It takes the file so that its contract can
 // say that it is given no other bytes. That it writes them no contract can say.
-fn write_next(file: &[u8], done: usize, bytes: &[u8], n: usize, rest: Rest) -> Printed
+fn write_next(
+    output: &Stdout,
+    file: &[u8],
+    done: usize,
+    bytes: &[u8],
+    n: usize,
+    rest: Rest,
+) -> Printed
     requires { (n ≤ length bytes.now) × IsNext (output_of file.now) done (take n bytes.now) × (done + n ≤ 4294967296) }
     ensures { Writes result (done + n) rest }
 {
-    if io::write_all(STDOUT_FILENO, &bytes[..n]) {
+    if output.write_all(&bytes[..n]).is_ok() {
         return Printed::UpTo(Progress {
             done: done + n,
             rest,
@@ -55,8 +62,16 @@ fn write_next(file: &[u8], done: usize, bytes: &[u8], n: usize, rest: Rest) -> P
     Printed::Failed
 }
 
+// Room for a part of the output.
+fn part_room() -> [u8; 65536]
+    ensures { 65536 ≡ length result }
+{
+    [0; 65536]
+}
+
 // The next part of the output.
 fn print_part(
+    output: &Stdout,
     file: &[u8],
     table: &Table,
     grants: &GrantTable,
@@ -68,16 +83,17 @@ fn print_part(
     ensures prints_piece { PrintsPiece result (images bridges.new devices.new) p.done (piece_of (tree_of table.now) (grants_of grants.now) file.now 65536 p.rest (images bridges.old devices.old)) }
     ensures writes_part { WritesPart file.now (tree_of table.now) (grants_of grants.now) p (images bridges.old devices.old) result (images bridges.new devices.new) }
 {
-    let mut space = io::large_buffer();
+    let mut space = part_room();
     let out: &mut [u8] = &mut space;
     let rest = p.rest;
     let put = put_part(file, table, grants, bridges, devices, rest, out);
     let next = put.rest;
-    write_next(file, p.done, out, put.len, next)
+    write_next(output, file, p.done, out, put.len, next)
 }
 
 // All of what is left, part by part.
 fn print_rest(
+    output: &Stdout,
     file: &[u8],
     table: &Table,
     grants: &GrantTable,
@@ -97,7 +113,7 @@ fn print_rest(
         if is_done(file, rest) {
             return Printed::UpTo(p);
         }
-        let Printed::UpTo(on) = print_part(file, table, grants, bridges, devices, p) else {
+        let Printed::UpTo(on) = print_part(output, file, table, grants, bridges, devices, p) else {
             return Printed::Failed;
         };
         p = on;
@@ -105,13 +121,19 @@ fn print_rest(
 }
 
 // The whole output of a file that was loaded, refused or not; both images are as long as its rack's registers, and zero.
-fn print_loaded(file: &[u8], l: Loaded, bridges: &mut [u8], devices: &mut [u8]) -> Printed
+fn print_loaded(
+    output: &Stdout,
+    file: &[u8],
+    l: Loaded,
+    bridges: &mut [u8],
+    devices: &mut [u8],
+) -> Printed
     requires { Loads l (file_in file.now) × (l.refusal ≡ 0 → images bridges.old devices.old ≡ blank (tree_of l.table)) }
     ensures { Prints result (images bridges.new devices.new) (length (output_of file.now)) (run_end file.now (images bridges.old devices.old)) }
 {
     let grants = l.grants;
     let first = first_rest(file, l, bridges, devices);
-    print_rest(file, &l.table, &grants, bridges, devices, first)
+    print_rest(output, file, &l.table, &grants, bridges, devices, first)
 }
 
 // How many bytes the registers of a rack's bridges take, and those of its devices.
@@ -162,7 +184,7 @@ fn devices_image() -> [u8; 4096]
 }
 
 // Checks a file and prints its output.
-fn run(file: &[u8]) -> Printed
+fn run(output: &Stdout, file: &[u8]) -> Printed
     ensures { WritesAll result (output_of file.now) }
 {
     let l = load_file(file);
@@ -171,7 +193,7 @@ fn run(file: &[u8]) -> Printed
     let d = room.devices;
     let mut bridges = bridges_image();
     let mut devices = devices_image();
-    print_loaded(file, l, &mut bridges[..b], &mut devices[..d])
+    print_loaded(output, file, l, &mut bridges[..b], &mut devices[..d])
 }
 
 // One byte more than the longest file, so that an overlong one is seen.
@@ -188,34 +210,39 @@ enum Input {
     Failed,
 }
 
-// Reads until the buffer is full or the input ends. io's read_full does not tell the input's end from a read that fails.
-fn read_input(buffer: &mut [u8]) -> Input
+// Reads until the buffer is full or the input ends.
+fn read_input(input: &mut StdinLock, buffer: &mut [u8]) -> Input
     ensures { Within result buffer.new }
 {
     let mut done: usize = 0;
     while done < buffer.len() {
-        let rest = &mut buffer[done..];
-        let got = libc::read(STDIN_FILENO, rest);
-        if got < 0 {
-            return Input::Failed;
+        match input.read(&mut buffer[done..]) {
+            Ok(more) => {
+                if more == 0 {
+                    return Input::Read(done);
+                }
+                done += more;
+            }
+            Err(_) => return Input::Failed,
         }
-        let more = io::count(got, rest);
-        if more == 0 {
-            return Input::Read(done);
-        }
-        done += more;
     }
     Input::Read(done)
 }
 
-fn main() {
+// Words for standard error; nobody is left to be told where they cannot be written.
+fn say(rt: &HostRuntime, words: &[u8]) {
+    let _ = rt.stderr().write_all(words);
+}
+
+fn main(rt: HostRuntime) {
+    let mut input = rt.stdin().lock();
     let mut buffer = input_room();
-    let Input::Read(n) = read_input(&mut buffer) else {
-        io::write_all(STDERR_FILENO, b"rackrun: the input could not be read\n");
+    let Input::Read(n) = read_input(&mut input, &mut buffer) else {
+        say(&rt, b"rackrun: the input could not be read\n");
         return;
     };
-    let Printed::UpTo(_) = run(&buffer[..n]) else {
-        io::write_all(STDERR_FILENO, b"rackrun: the output could not be written\n");
+    let Printed::UpTo(_) = run(&rt.stdout(), &buffer[..n]) else {
+        say(&rt, b"rackrun: the output could not be written\n");
         return;
     };
 }

@@ -1,0 +1,25 @@
+use borrow.Author.Rules.{rules}
+use Prim.Native.Nat.{◌-◌}
+use Rattle.check_sweep.proofs.Filled.{GatheredTo, gathered_none, gathered_on, gathered_off, gathered_room, gathered_all}
+use Rattle.check_sweep.proofs.agents.agents_on.Goals as goal
+
+pub loop-i-init : goal.loop-i-init
+loop-i-init c = search (gathered_none, rules)
+
+pub offset_bounds-found-n : goal.offset_bounds-found-n
+offset_bounds-found-n c = search (gathered_room, rules)
+
+pub bounds-found-n : goal.bounds-found-n
+bounds-found-n c = search (gathered_room, rules)
+
+pub overflow_add-n : goal.overflow_add-n
+overflow_add-n c = search (gathered_room, rules)
+
+pub loop-i-preserved-then-parent_at-bus : goal.loop-i-preserved-then-parent_at-bus
+loop-i-preserved-then-parent_at-bus c = search (gathered_on _ _ _ _ c.loop-i.invariant, rules)
+
+pub loop-i-preserved : goal.loop-i-preserved
+loop-i-preserved c = search (gathered_off, rules)
+
+pub returns : goal.returns
+returns c = search (gathered_all, rules)
