@@ -23,7 +23,7 @@ pub fn put_part(
     out: &mut [u8],
 ) -> Put
     requires { Ready file.now (tree_of table.now) rest × (96 ≤ length out.old) }
-    ensures devices_after { take result.len out.new ++ output_from (tree_of table.now) (grants_of grants.now) file.now result.rest (images bridges.new devices.new) ≡ output_from (tree_of table.now) (grants_of grants.now) file.now rest (images bridges.old devices.old) }
+    ensures text { take result.len out.new ++ output_from (tree_of table.now) (grants_of grants.now) file.now result.rest (images bridges.new devices.new) ≡ output_from (tree_of table.now) (grants_of grants.now) file.now rest (images bridges.old devices.old) }
     ensures puts { Puts result out.old out.new (images bridges.new devices.new) (piece_of (tree_of table.now) (grants_of grants.now) file.now (length out.old) rest (images bridges.old devices.old)) }
     ensures onward { Onward file.now (tree_of table.now) (length out.old) rest result }
 {

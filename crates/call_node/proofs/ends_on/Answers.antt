@@ -1,0 +1,13 @@
+use Rattle.call_table.specs.definitions.Call.{ends_in}
+use Rattle.call_table.specs.laws.HandedBack.{is_refused, is_given}
+use Rattle.call_node.proofs.Told.{range_of}
+use borrow.Author.Rules.{rules}
+use Rattle.call_node.proofs.ends_on.Goals as goal
+
+pub returns-then-refusal-ne0 : goal.returns-then-refusal-ne0
+unfolding ends_in
+returns-then-refusal-ne0 c = search (is_refused, rules)
+
+pub returns : goal.returns
+unfolding ends_in
+returns c = search (is_given, range_of, rules)

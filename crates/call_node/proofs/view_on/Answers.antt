@@ -1,0 +1,12 @@
+use Rattle.call_table.specs.definitions.Call.{view_in}
+use Rattle.call_table.specs.laws.HandedBack.{is_refused, is_given}
+use borrow.Author.Rules.{rules}
+use Rattle.call_node.proofs.view_on.Goals as goal
+
+pub returns-then-refusal-ne0 : goal.returns-then-refusal-ne0
+unfolding view_in
+returns-then-refusal-ne0 c = search (is_refused, rules)
+
+pub returns : goal.returns
+unfolding view_in
+returns c = search (is_given, rules)

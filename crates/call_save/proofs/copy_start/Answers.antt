@@ -1,0 +1,6 @@
+use Rattle.call_save.proofs.Saving.{part_long, part_fits, start_copied}
+use borrow.Author.Rules.{rules}
+use Rattle.call_save.proofs.copy_start.Goals as goal
+
+pub returns : goal.returns
+returns c = search (start_copied, rules)

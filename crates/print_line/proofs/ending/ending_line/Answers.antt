@@ -1,0 +1,28 @@
+use Rattle.print_line.proofs.ending.ending_line.Goals as goal
+
+pub returns-in-Data : goal.returns-in-Data
+returns-in-Data c = rw c.in-Data.is c.data_line.ensures
+
+pub returns-in-Stored : goal.returns-in-Stored
+returns-in-Stored c = rw c.in-Stored.is c.stored_line.ensures
+
+pub returns-in-Owner : goal.returns-in-Owner
+returns-in-Owner c = rw c.in-Owner.is c.owner_line.ensures
+
+pub returns-in-Host : goal.returns-in-Host
+returns-in-Host c = rw c.in-Host.is c.host_line.ensures
+
+pub returns-in-Unclaimed : goal.returns-in-Unclaimed
+returns-in-Unclaimed c = rw c.in-Unclaimed.is c.unclaimed_line.ensures
+
+pub returns-in-Clash : goal.returns-in-Clash
+returns-in-Clash c = rw c.in-Clash.is c.clash_line.ensures
+
+pub returns-in-Special : goal.returns-in-Special
+returns-in-Special c = rw c.in-Special.is c.special_line.ensures
+
+pub returns-in-Silent : goal.returns-in-Silent
+returns-in-Silent c = rw c.in-Silent.is c.silent_line.ensures
+
+pub returns-in-Denied : goal.returns-in-Denied
+returns-in-Denied c = rw c.in-Denied.is c.denied_line.ensures
