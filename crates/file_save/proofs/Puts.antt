@@ -4,10 +4,9 @@ use mathlib.Core.List.{List, [], ◌∷◌, ◌++◌}
 use Prim.Native.Nat.{ℕ, ◌+◌, ◌-◌, ◌≤◌, ◌<◌}
 use native.Mathlib.Omega.{arith}
 use borrow.Rule.Slice.PartMut.{put_mid}
-use lib.ListN.{length, take, drop, set, length-append, length-drop}
-use lib.Seq.{length-take-le, drop-drop}
+use lib.ListN.{length, set, length-append}
+use lib.Seq.{drop-drop}
 use Rattle.rack.specs.definitions.Buffer.{placed}
-use Rattle.rack.specs.laws.Copied.{copied_whole}
 use Rattle.rack.specs.laws.CountLaws.{left_suc, left_none}
 use Rattle.file_save.specs.definitions.Saved.{Put, each}
 use Rattle.file_save.specs.laws.Placed.{placed_none, placed_byte, placed_length, placed_both, placed_opened}

@@ -4,7 +4,7 @@ use Rattle.rack.specs.declared.Node.{Node}
 use Rattle.rack.specs.definitions.Node.{is_bridge}
 use Rattle.register_header.specs.definitions.PciRegs.{BASE_ADDRESS}
 use Rattle.register_header.specs.definitions.Sizing.{read_back, written_back, cleared, negated, region_register, size_part}
-use Rattle.register_header.specs.laws.Restore.{written_back_lem}
+use Rattle.register_header.proofs.Restore.{written_back_lem}
 
 module _ (n : Node) (l : List ℕ) (kind r : ℕ) {x s : ℕ} where
   pub size_io : kind ≡ 1 → x ≡ read_back n l (region_register r) → s ≡ negated 32 (cleared 4 x) → s ≡ size_part n l kind (region_register r)

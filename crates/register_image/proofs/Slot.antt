@@ -1,13 +1,12 @@
 -- The 64 bytes at a place of an image, as the code takes them out and puts them back.
-use mathlib.Core.Path.{◌≡◌, sym, ◌∙◌}
-use mathlib.Core.List.{List, [], ◌++◌}
+use mathlib.Core.Path.{◌≡◌}
+use mathlib.Core.List.{List, []}
 use Prim.Native.Nat.{ℕ, ◌+◌, ◌-◌, ◌*◌, ◌/◌, ◌<◌, ◌≤◌}
 use native.Mathlib.Omega.{arith}
 use borrow.Author.Tests.{lt-ltb, le-ltb}
 use borrow.Rule.Slice.PartMut.{put_mid, put_same}
-use lib.ListN.{length, take, drop, length-drop}
-use lib.Seq.{length-take-le, drop-drop}
-use Rattle.rack.specs.laws.Copied.{copied_whole}
+use lib.ListN.{length, take, drop}
+use lib.Seq.{drop-drop}
 use Rattle.register_image.specs.definitions.Image.{node_part, on_part}
 
 width : (p : ℕ) → 64 * p + 64 - 64 * p ≡ 64

@@ -1,5 +1,5 @@
 -- How many places pass a test: the length of the list of those that it keeps.
-use Rattle.std.specs.Prelude.{◌≡◌, refl, ◌⊎◌, Bool, true, false, not, ◌&&◌, eqb, length}
+use Rattle.std.specs.Prelude.{◌≡◌, refl, Bool, true, false, not, ◌&&◌, eqb, length}
 use Rattle.std.proofs.Common.{sym, ◌∙◌, eq-or-lt_of_le, eq-eqb, ne_eqb}
 use Rattle.std.proofs.Math.Path.{ap}
 use Rattle.std.proofs.Math.Logic.{⊎_elim}

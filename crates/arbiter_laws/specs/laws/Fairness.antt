@@ -1,5 +1,5 @@
 -- 'a member that keeps requesting is granted within H + 1 grants if high and (H + 1) times L if low', from every state.
-use Rattle.std.specs.Prelude.{◌≡◌, ◌⊎◌, ℕ, zero, suc, ◌+◌, ◌≤◌, ◌<◌, Bool, true, false, cond, eqb, length, take}
+use Rattle.std.specs.Prelude.{◌≡◌, ℕ, zero, suc, ◌+◌, ◌≤◌, ◌<◌, Bool, true, false, cond, eqb, length, take}
 use Rattle.std.proofs.Math.Path.{refl}
 use Rattle.std.proofs.Common.{sym, ap, ⊎_elim, le_of_suc-le-suc, lt_of_lt_of_le, true≢false, eq-eqb, ne_eqb, eqb-true}
 use native.Mathlib.Omega.{arith}

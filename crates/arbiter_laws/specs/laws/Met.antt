@@ -1,8 +1,8 @@
 -- The bounds are met: a member that was granted last, and requests on while everybody does, needs exactly as many grants.
-use Rattle.std.specs.Prelude.{◌≡◌, refl, ◌⊎◌, true, not, [], ◌∷◌, length, replicate}
+use Rattle.std.specs.Prelude.{◌≡◌, refl, true, not, [], ◌∷◌, length, replicate}
 use Rattle.std.proofs.Common.{sym, subst, ◌∙◌, ⊎_elim, arith, eq-eqb, ne_eqb, eqb-true}
 use Rattle.std.proofs.Math.Path.{ap}
-use Prim.Native.Nat.{ℕ, zero, suc, ◌+◌, ◌-◌, ◌<◌}
+use Prim.Native.Nat.{ℕ, zero, suc, ◌+◌, ◌<◌}
 use Rattle.std.proofs.lemmas.List.{length-replicate}
 use Rattle.arbiter.specs.declared.State.{State}
 use Rattle.arbiter.specs.definitions.Rings.{◌has◌, none}

@@ -1,4 +1,4 @@
-use Rattle.call_save.proofs.Saving.{part_long, part_fits, start_copied}
+use Rattle.call_save.proofs.Saving.{start_copied}
 use borrow.Author.Rules.{rules}
 use Rattle.call_save.proofs.copy_start.Goals as goal
 

@@ -17,7 +17,7 @@ use Rattle.register_header.specs.definitions.Options.{all_options, options_of, l
 use Rattle.register_header.specs.definitions.PciRegs.{IO_BASE, IO_LIMIT, MEMORY_BASE, MEMORY_LIMIT, PREF_MEMORY_BASE, PREF_MEMORY_LIMIT, PREF_BASE_UPPER32, PREF_LIMIT_UPPER32, IO_BASE_UPPER16, IO_LIMIT_UPPER16, BRIDGE_CONTROL, BRIDGE_CTL_ISA, BRIDGE_CTL_VGA, BRIDGE_CTL_VGA16}
 use Rattle.register_header.specs.definitions.Register.{bit_at, dword_at}
 use Rattle.register_header.specs.laws.Bits.{bit, bit_lt, bit_and_lem}
-use Rattle.register_header.specs.laws.Lacked.{lacked_none}
+use Rattle.register_header.proofs.Lacked.{lacked_none}
 use Rattle.register_image.specs.definitions.Image.{Images, view}
 use Rattle.bus_reset.specs.definitions.Agreement.{image_refusal}
 use Rattle.register_laws.specs.laws.Lacked.{accepted_lacked}

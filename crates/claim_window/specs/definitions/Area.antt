@@ -3,7 +3,7 @@ use Rattle.std.specs.Prelude.{ℕ, ◌+◌, ◌*◌, ◌/◌, ◌^◌, Bool, not
 use Rattle.register_header.specs.definitions.Register.{dword_at}
 use Rattle.register_header.specs.definitions.Sizing.{region_register}
 use Rattle.claim_window.specs.declared.Area.{Area}
-use Rattle.claim_window.specs.definitions.Range.{range, empty, within, window}
+use Rattle.claim_window.specs.definitions.Range.{empty, within, window}
 
 -- 01: 'region r .. at 10h + 8r .. the next four bytes writable for kind 3': the register's value
 abbrev pub region_value : List ℕ → ℕ → ℕ → ℕ

@@ -28,7 +28,7 @@ use Rattle.check_search.specs.laws.Stretch.{until_all}
 use Rattle.check_search.specs.laws.Swept.{decoded, sweep_by, first_by, on_bus_by, check_by, checked}
 use Rattle.claim_window.specs.definitions.Window.{windows_of}
 use Rattle.claim_window.specs.definitions.Inside.{inside_memory, inside_io, memory_until, io_until}
-use Rattle.demand_examples.specs.definitions.Rows.{holds, all, rows, rack_of, images_of, three, two}
+use Rattle.demand_examples.specs.definitions.Rows.{all, rows, rack_of, images_of, three, two}
 use Rattle.rack.specs.definitions.First.{first, first_from}
 use Rattle.rack.specs.definitions.Refusal.{too_many, bad_parent, high_device, taken_device, bad_region, node_refusal, rack_refusal}
 use Rattle.register_image.specs.definitions.Fixed.{lengths_wrong, byte_wrong}

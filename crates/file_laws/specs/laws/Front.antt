@@ -5,7 +5,7 @@ use Rattle.std.proofs.Common.{◌∙◌, arith, lit<, length-take-le, get_or-tak
 use Rattle.std.proofs.Math.Bool.{true}
 use Rattle.std.proofs.lemmas.Bool.{false≢true}
 use Rattle.rack.specs.definitions.Count.{some, some_from}
-use Rattle.rack.specs.definitions.First.{◌or◌, first}
+use Rattle.rack.specs.definitions.First.{first}
 use Rattle.rack.specs.definitions.Node.{kind_from, is_bridge}
 use Rattle.rack.specs.definitions.Grow.{no_tree}
 use Rattle.rack.specs.laws.Bools.{tested}

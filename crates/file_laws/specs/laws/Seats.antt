@@ -4,12 +4,12 @@ use Rattle.std.specs.Prelude.{◌≡◌, Bool, false, List, ltb, eqb, length}
 use Rattle.std.proofs.Math.Path.{refl, ap}
 use Rattle.std.proofs.Common.{sym, ◌∙◌, lit<}
 use Rattle.std.proofs.Math.Bool.{true, false≢true}
-use Prim.Native.Nat.{ℕ, zero, suc, ◌-◌, ◌≤◌, ◌<◌}
+use Prim.Native.Nat.{ℕ, zero, suc, ◌≤◌, ◌<◌}
 use native.Mathlib.Omega.{arith}
 use borrow.Author.Tests.{ltb-true, ltb-false, eqb-true, eqb-false}
 use Rattle.rack.specs.laws.Bools.{tested}
 use Rattle.rack.specs.laws.FirstLaws.{when_not}
-use Rattle.rack_laws.specs.laws.First.{at, list_none_given}
+use Rattle.rack_laws.specs.laws.First.{list_none_given}
 use Rattle.seat.specs.definitions.Grants.{seated}
 use Rattle.file_record.specs.declared.Class.TheVariants as class
 use Rattle.file_record.specs.definitions.Record.{class_in, is_a}

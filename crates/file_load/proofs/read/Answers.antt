@@ -1,6 +1,5 @@
-use Prim.Native.Nat.{◌-◌}
 use borrow.Author.Rules.{rules}
-use Rattle.file_record.specs.laws.LoadsLaws.{Left, left_start, left_step, left_stop, left_less, left_end}
+use Rattle.file_record.specs.laws.LoadsLaws.{left_start, left_step, left_stop, left_less, left_end}
 use Rattle.file_load.proofs.read.Goals as goal
 
 pub loop-w-init : goal.loop-w-init

@@ -1,7 +1,7 @@
 use Prim.Native.Nat.{◌-◌}
 use lib.ListN.{length}
 use Rattle.file_record.specs.definitions.Loads.{reading_of}
-use Rattle.file_record.specs.laws.LoadsLaws.{Left, left_start, left_step, left_stop, left_less, left_end}
+use Rattle.file_record.specs.laws.LoadsLaws.{Left}
 use Rattle.file_load.proofs.read.Given as goal
 
 abbrev pub invariant-loop-w : goal.invariant-loop-w

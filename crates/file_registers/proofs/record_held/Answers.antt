@@ -1,5 +1,5 @@
 use borrow.Author.Rules.{rules}
-use Rattle.bus_reset.specs.laws.WayUp.{NoneAbove, above_root, above_found, above_next, above_spent}
+use Rattle.bus_reset.specs.laws.WayUp.{above_root, above_found, above_next, above_spent}
 use Rattle.file_registers.proofs.Turns.{held_start}
 use Rattle.file_registers.proofs.record_held.Goals as goal
 

@@ -2,7 +2,7 @@ use Prim.Native.Nat.{◌+◌}
 use lib.ListN.{length}
 use Rattle.rack.specs.definitions.Table.{tree_of}
 use Rattle.rack.specs.definitions.Tree.{parent_of}
-use Rattle.bus_reset.specs.laws.WayUp.{NoneAbove, above_root, above_found, above_next, above_spent}
+use Rattle.bus_reset.specs.laws.WayUp.{NoneAbove}
 use Rattle.file_record.specs.definitions.Number.{byte_in}
 use Rattle.file_record.specs.definitions.Load.{record_resets}
 use Rattle.file_registers.proofs.record_held.Given as goal

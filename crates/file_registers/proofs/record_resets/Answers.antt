@@ -1,7 +1,6 @@
 use borrow.Author.Rules.{rules}
-use Prim.Native.Nat.{◌-◌}
 use mathlib.Core.Path.{refl}
-use Rattle.file_registers.proofs.Turns.{Left, left_all, left_low, left_found, left_next, left_none}
+use Rattle.file_registers.proofs.Turns.{left_all, left_low, left_found, left_next, left_none}
 use Rattle.file_registers.proofs.record_resets.Goals as goal
 
 pub loop-o-init : goal.loop-o-init

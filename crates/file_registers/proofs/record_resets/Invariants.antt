@@ -1,5 +1,5 @@
 use Prim.Native.Nat.{◌-◌}
-use Rattle.file_registers.proofs.Turns.{Left, left_all, left_low, left_found, left_next, left_none}
+use Rattle.file_registers.proofs.Turns.{Left}
 use Rattle.file_registers.proofs.record_resets.Given as goal
 
 abbrev pub invariant-loop-o : goal.invariant-loop-o

@@ -1,7 +1,6 @@
 use borrow.Author.Rules.{rules}
-use mathlib.Core.Path.{◌≡◌, refl}
-use Prim.Native.Nat.{◌-◌}
-use Rattle.file_start.proofs.Turns.{Left, left_all, left_low, left_next, left_none}
+use mathlib.Core.Path.{refl}
+use Rattle.file_start.proofs.Turns.{left_all, left_low, left_next, left_none}
 use Rattle.file_start.proofs.set_records.Goals as goal
 
 pub loop-o-init : goal.loop-o-init

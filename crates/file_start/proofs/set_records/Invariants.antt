@@ -1,9 +1,9 @@
-use mathlib.Core.Path.{◌≡◌, refl}
+use mathlib.Core.Path.{◌≡◌}
 use Prim.Native.Nat.{◌-◌}
 use lib.ListN.{length}
 use Rattle.rack.specs.definitions.Table.{tree_of}
 use Rattle.register_image.specs.definitions.Image.{images}
-use Rattle.file_start.proofs.Turns.{Left, left_all, left_low, left_next, left_none}
+use Rattle.file_start.proofs.Turns.{Left}
 use Rattle.file_start.proofs.set_records.Given as goal
 
 abbrev pub invariant-loop-o : goal.invariant-loop-o

@@ -1,6 +1,5 @@
 use borrow.Author.Rules.{rules}
-use Prim.Native.Nat.{◌-◌}
-use Rattle.rack.specs.laws.FirstLaws.{NoneBefore, none_yet, none_next, first_found, none_found}
+use Rattle.rack.specs.laws.FirstLaws.{none_yet, none_next, first_found, none_found}
 use Rattle.rack_refusals.proofs.refusal_of.Goals as goal
 
 pub loop-i-init : goal.loop-i-init

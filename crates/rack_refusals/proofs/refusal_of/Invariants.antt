@@ -1,5 +1,5 @@
 use Prim.Native.Nat.{◌-◌}
-use Rattle.rack.specs.laws.FirstLaws.{NoneBefore, none_yet, none_next, first_found, none_found}
+use Rattle.rack.specs.laws.FirstLaws.{NoneBefore}
 use Rattle.rack.specs.definitions.Refusal.{node_refusal}
 use Rattle.rack.specs.definitions.Table.{node_at}
 use Rattle.rack_refusals.proofs.refusal_of.Given as goal

@@ -1,6 +1,5 @@
-use Rattle.rack_refusals.proofs.Few.{FreeYet, free_yet, taken_none, taken_next, taken_found}
+use Rattle.rack_refusals.proofs.Few.{free_yet, taken_none, taken_next, taken_found}
 use borrow.Author.Rules.{rules}
-use Prim.Native.Nat.{◌-◌}
 use Rattle.rack_refusals.proofs.taken_device.Goals as goal
 
 pub loop-j-init : goal.loop-j-init

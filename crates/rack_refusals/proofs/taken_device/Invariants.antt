@@ -1,4 +1,4 @@
-use Rattle.rack_refusals.proofs.Few.{FreeYet, free_yet, taken_none, taken_next, taken_found}
+use Rattle.rack_refusals.proofs.Few.{FreeYet}
 use Prim.Native.Nat.{◌-◌}
 use Rattle.rack.specs.definitions.Table.{node_at}
 use Rattle.rack_refusals.proofs.taken_device.Given as goal

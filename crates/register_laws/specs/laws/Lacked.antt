@@ -10,8 +10,8 @@ use Rattle.rack.specs.laws.Bools.{tested}
 use Rattle.register_header.specs.definitions.Options.{options_of, lacked}
 use Rattle.register_header.specs.definitions.Tables.{write_table, reset_table}
 use Rattle.register_header.specs.definitions.Mask.{write_mask, clear_mask, reset_byte}
-use Rattle.register_header.specs.laws.Disjoint.{write_lt, clear_lt}
-use Rattle.register_header.specs.laws.Lacked.{lacked_unused, lacked_lt, lacked_none}
+use Rattle.register_header.proofs.Disjoint.{write_lt, clear_lt}
+use Rattle.register_header.proofs.Lacked.{lacked_unused, lacked_lt, lacked_none}
 use Rattle.register_image.specs.definitions.Image.{Images, view}
 use Rattle.register_image.specs.definitions.Fixed.{byte_wrong}
 use Rattle.bus_reset.specs.definitions.Agreement.{image_refusal}

@@ -16,7 +16,7 @@ use Rattle.register_header.specs.definitions.Mask.{byte_of, write_mask, clear_ma
 use Rattle.register_header.specs.definitions.Register.{read_register, write_byte, write_dword, write_register, set_status}
 use Rattle.register_image.specs.definitions.Reset.{reset_from, reset_part}
 use Rattle.rack.specs.laws.Bools.{tested}
-use Rattle.register_header.specs.laws.Disjoint.{write_lt, clear_lt}
+use Rattle.register_header.proofs.Disjoint.{write_lt, clear_lt}
 use Rattle.register_laws.specs.laws.Kept.{fixed_kept}
 
 -- what a byte of a part becomes: where it is written, put by its masks

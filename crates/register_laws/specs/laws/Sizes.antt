@@ -22,7 +22,7 @@ use Rattle.rack.specs.definitions.Stored.{Stored}
 use Rattle.register_header.specs.definitions.PciRegs.{BASE_ADDRESS}
 use Rattle.register_header.specs.definitions.Byte.{written_byte}
 use Rattle.register_header.specs.definitions.Mask.{in_region, byte_of, region_write, region_reset, write_mask, clear_mask, fixed_mask, reset_byte}
-use Rattle.register_header.specs.laws.Disjoint.{region_clear as no-clear}
+use Rattle.register_header.proofs.Disjoint.{region_clear as no-clear}
 use Rattle.register_header.specs.definitions.Register.{dword_of, read_register, write_dword}
 use Rattle.register_header.specs.definitions.Sizing.{read_back, region_register, size_part}
 use Rattle.register_header.specs.laws.SizingLaws.{kind_none}

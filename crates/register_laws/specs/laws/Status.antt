@@ -16,7 +16,7 @@ use Rattle.register_header.specs.definitions.Tables.{clear_table}
 use Rattle.register_header.specs.definitions.Mask.{write_mask, clear_mask, fixed_mask}
 use Rattle.register_header.specs.definitions.Register.{set_status, status_at, status_mask}
 use Rattle.rack.specs.laws.Bools.{tested}
-use Rattle.register_header.specs.laws.Disjoint.{write_lt, clear_lt}
+use Rattle.register_header.proofs.Disjoint.{write_lt, clear_lt}
 use Rattle.register_laws.specs.laws.Kept.{narrow, or_outside}
 
 -- the upper byte of a status register clears F9h

@@ -5,7 +5,6 @@ use Rattle.std.proofs.Math.Bool.{and-false}
 use Rattle.std.proofs.lemmas.Bool.{false≢true}
 use Rattle.rack.specs.definitions.First.{◌or◌}
 use Rattle.rack.specs.definitions.Tree.{Tree}
-use Rattle.rack_laws.specs.laws.First.{at}
 use Rattle.seat.specs.definitions.Grants.{Grants}
 use Rattle.register_image.specs.definitions.Image.{Images}
 use Rattle.file_record.specs.declared.Class.{Class}

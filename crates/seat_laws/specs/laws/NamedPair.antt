@@ -1,5 +1,5 @@
 -- The grants of a decoded rack are its named pairs, and 15 is given exactly where none is of that seat.
-use Rattle.std.specs.Prelude.{◌≡◌, true, false, ℕ, get_or}
+use Rattle.std.specs.Prelude.{◌≡◌, true, ℕ, get_or}
 use Rattle.std.proofs.Common.{sym, ap, ◌∙◌, true≢false, le-leb, lt-ltb}
 use Rattle.std.proofs.lemmas.Bool.{false≢true}
 use Rattle.rack.specs.declared.Grant.{Grant}

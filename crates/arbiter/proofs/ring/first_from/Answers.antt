@@ -1,4 +1,3 @@
-use Prim.Native.Nat.{◌-◌}
 use Rattle.arbiter.proofs.Searched.{found_here, found_later, found_nowhere}
 use Rattle.arbiter.proofs.ring.first_from.Goals as goal
 

@@ -1,6 +1,5 @@
 use borrow.Author.Rules.{rules}
-use Prim.Native.Nat.{◌-◌}
-use Rattle.rack.specs.laws.CountLaws.{NoneYet, none_yet, some_next, some_found, some_none}
+use Rattle.rack.specs.laws.CountLaws.{none_yet, some_next, some_found, some_none}
 use Rattle.bus_reset.proofs.agreement.disagrees.Goals as goal
 
 pub loop-i-init : goal.loop-i-init

@@ -1,6 +1,6 @@
 use Prim.Native.Nat.{◌-◌}
 use Rattle.rack.specs.definitions.Table.{tree_of}
-use Rattle.rack.specs.laws.CountLaws.{NoneYet, none_yet, some_next, some_found, some_none}
+use Rattle.rack.specs.laws.CountLaws.{NoneYet}
 use Rattle.register_image.specs.definitions.Image.{images}
 use Rattle.bus_reset.specs.definitions.Agreement.{node_disagrees}
 use Rattle.bus_reset.proofs.agreement.disagrees.Given as goal

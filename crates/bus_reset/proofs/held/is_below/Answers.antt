@@ -1,5 +1,5 @@
 use borrow.Author.Rules.{rules}
-use Rattle.bus_reset.specs.laws.WayUp.{NoneAbove, above_start, above_root, above_spent}
+use Rattle.bus_reset.specs.laws.WayUp.{above_start, above_root, above_spent}
 use Rattle.bus_reset.proofs.Below.{bridge_found, bridge_next}
 use Rattle.bus_reset.proofs.held.is_below.Goals as goal
 

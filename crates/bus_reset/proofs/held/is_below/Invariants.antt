@@ -1,7 +1,7 @@
 use lib.Dec.{eqb}
 use Rattle.rack.specs.definitions.Table.{tree_of}
 use Rattle.rack.specs.definitions.Tree.{parent_of}
-use Rattle.bus_reset.specs.laws.WayUp.{NoneAbove, above_start, above_root, above_spent}
+use Rattle.bus_reset.specs.laws.WayUp.{NoneAbove}
 use Rattle.bus_reset.proofs.held.is_below.Given as goal
 
 abbrev pub invariant-loop-left : goal.invariant-loop-left

@@ -1,6 +1,6 @@
 use borrow.Author.Rules.{rules}
 use mathlib.Core.Path.{refl}
-use Rattle.bus_reset.specs.laws.WayUp.{NoneAbove, above_start, above_root, above_found, above_next, above_spent}
+use Rattle.bus_reset.specs.laws.WayUp.{above_start, above_root, above_found, above_next, above_spent}
 use Rattle.bus_reset.proofs.held.is_held_bus.Goals as goal
 
 pub loop-left-init : goal.loop-left-init

@@ -1,7 +1,7 @@
 use Rattle.rack.specs.definitions.Table.{tree_of}
 use Rattle.register_image.specs.definitions.Image.{images}
 use Rattle.bus_reset.specs.definitions.Held.{resets}
-use Rattle.bus_reset.specs.laws.WayUp.{NoneAbove, above_start, above_root, above_found, above_next, above_spent}
+use Rattle.bus_reset.specs.laws.WayUp.{NoneAbove}
 use Rattle.bus_reset.proofs.held.is_held_bus.Given as goal
 
 abbrev pub invariant-loop-left : goal.invariant-loop-left

@@ -1,7 +1,6 @@
 use borrow.Author.Rules.{rules}
-use mathlib.Core.Path.{◌≡◌, refl}
-use Prim.Native.Nat.{◌-◌}
-use Rattle.register_image.specs.laws.ResetTurns.{ResetYet, reset_none, reset_next, reset_all}
+use mathlib.Core.Path.{refl}
+use Rattle.register_image.specs.laws.ResetTurns.{reset_none, reset_next, reset_all}
 use Rattle.bus_reset.proofs.store.reset_below.Goals as goal
 
 pub loop-i-init : goal.loop-i-init

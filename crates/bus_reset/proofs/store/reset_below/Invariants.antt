@@ -1,9 +1,9 @@
-use mathlib.Core.Path.{◌≡◌, refl}
+use mathlib.Core.Path.{◌≡◌}
 use Prim.Native.Nat.{◌-◌}
 use lib.ListN.{length}
 use Rattle.rack.specs.definitions.Table.{tree_of}
 use Rattle.register_image.specs.definitions.Image.{images}
-use Rattle.register_image.specs.laws.ResetTurns.{ResetYet, reset_none, reset_next, reset_all}
+use Rattle.register_image.specs.laws.ResetTurns.{ResetYet}
 use Rattle.bus_reset.specs.definitions.Held.{is_below}
 use Rattle.bus_reset.proofs.store.reset_below.Given as goal
 

@@ -1,6 +1,5 @@
 use borrow.Author.Rules.{rules}
-use Prim.Native.Nat.{◌-◌}
-use Rattle.check_search.specs.laws.FirstLaws.{NodesYet, nodes_yet, nodes_off, nodes_next, nodes_found, nodes_end}
+use Rattle.check_search.specs.laws.FirstLaws.{nodes_yet, nodes_off, nodes_next, nodes_found, nodes_end}
 use Rattle.check_search.proofs.drivers.nodes_drive.Goals as goal
 
 pub loop-i-init : goal.loop-i-init

@@ -2,7 +2,7 @@ use Prim.Native.Nat.{◌-◌}
 use Rattle.rack.specs.definitions.Table.{tree_of}
 use Rattle.register_image.specs.definitions.Image.{images}
 use Rattle.check_search.specs.definitions.Check.{driven_by}
-use Rattle.check_search.specs.laws.FirstLaws.{NodesYet, nodes_yet, nodes_off, nodes_next, nodes_found, nodes_end}
+use Rattle.check_search.specs.laws.FirstLaws.{NodesYet}
 use Rattle.check_search.proofs.drivers.nodes_drive.Given as goal
 
 abbrev pub invariant-loop-i : goal.invariant-loop-i

@@ -1,6 +1,5 @@
 use borrow.Author.Rules.{rules}
-use Prim.Native.Nat.{◌-◌}
-use Rattle.check_sweep.proofs.Filled.{Counted, counted_none, counted_on, counted_off, counted_all}
+use Rattle.check_sweep.proofs.Filled.{counted_none, counted_on, counted_off, counted_all}
 use Rattle.check_sweep.proofs.agents.agent_count.Goals as goal
 
 pub loop-i-init : goal.loop-i-init

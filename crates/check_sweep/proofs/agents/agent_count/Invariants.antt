@@ -1,6 +1,6 @@
 use Prim.Native.Nat.{◌-◌}
 use Rattle.rack.specs.definitions.Table.{tree_of}
-use Rattle.check_sweep.proofs.Filled.{Counted, counted_none, counted_on, counted_off, counted_all}
+use Rattle.check_sweep.proofs.Filled.{Counted}
 use Rattle.check_sweep.proofs.agents.agent_count.Given as goal
 
 abbrev pub invariant-loop-i : goal.invariant-loop-i

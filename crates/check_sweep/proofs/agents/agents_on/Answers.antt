@@ -1,6 +1,5 @@
 use borrow.Author.Rules.{rules}
-use Prim.Native.Nat.{◌-◌}
-use Rattle.check_sweep.proofs.Filled.{GatheredTo, gathered_none, gathered_on, gathered_off, gathered_room, gathered_all}
+use Rattle.check_sweep.proofs.Filled.{gathered_none, gathered_on, gathered_off, gathered_room, gathered_all}
 use Rattle.check_sweep.proofs.agents.agents_on.Goals as goal
 
 pub loop-i-init : goal.loop-i-init

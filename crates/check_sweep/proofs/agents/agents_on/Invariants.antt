@@ -1,7 +1,7 @@
 use Prim.Native.Nat.{◌-◌}
 use Rattle.rack.specs.definitions.Table.{tree_of}
 use Rattle.register_image.specs.definitions.Image.{images}
-use Rattle.check_sweep.proofs.Filled.{GatheredTo, gathered_none, gathered_on, gathered_off, gathered_room, gathered_all}
+use Rattle.check_sweep.proofs.Filled.{GatheredTo}
 use Rattle.check_sweep.proofs.agents.agents_on.Given as goal
 
 abbrev pub invariant-loop-i : goal.invariant-loop-i

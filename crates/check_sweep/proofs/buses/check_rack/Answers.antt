@@ -1,7 +1,6 @@
 use borrow.Author.Rules.{rules}
-use Prim.Native.Nat.{◌-◌}
 use Rattle.rack_laws.specs.laws.Agents.{agents_few}
-use Rattle.check_sweep.proofs.Reports.{from, root_found, root_left, held_found, held_left, none_found}
+use Rattle.check_sweep.proofs.Reports.{root_found, root_left, held_found, held_left, none_found}
 use Rattle.check_sweep.proofs.buses.check_rack.Goals as goal
 
 pub bus_report-r-requires : goal.bus_report-r-requires

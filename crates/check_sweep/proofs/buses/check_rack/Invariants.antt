@@ -3,7 +3,7 @@ use Prim.Native.Nat.{◌-◌}
 use Rattle.rack.specs.definitions.Table.{tree_of}
 use Rattle.register_image.specs.definitions.Image.{images}
 use Rattle.check_search.specs.definitions.Check.{check}
-use Rattle.check_sweep.proofs.Reports.{from, root_found, root_left, held_found, held_left, none_found}
+use Rattle.check_sweep.proofs.Reports.{from}
 use Rattle.check_sweep.proofs.buses.check_rack.Given as goal
 
 abbrev pub invariant-loop-i : goal.invariant-loop-i

@@ -1,10 +1,9 @@
-use Prim.Native.Nat.{◌+◌, ◌-◌, ◌≤◌}
-use mathlib.Core.Path.{◌≡◌, refl}
+use mathlib.Core.Path.{refl}
 use native.Mathlib.Omega.{arith}
 use borrow.Author.Rules.{rules}
 use Rattle.rack.specs.definitions.Table.{tree_of}
 use Rattle.register_image.specs.definitions.Image.{images}
-use Rattle.check_sweep.proofs.Seen.{Seen, seen_none, seen_more, seen_less, seen_few, seen_found, seen_on, seen_end}
+use Rattle.check_sweep.proofs.Seen.{seen_none, seen_more, seen_less, seen_few, seen_found, seen_on, seen_end}
 use Rattle.check_sweep.proofs.sweep.sweep.Goals as goal
 
 pub loop-g-init : goal.loop-g-init

@@ -1,9 +1,9 @@
 use Prim.Native.Nat.{◌+◌, ◌-◌, ◌≤◌}
-use mathlib.Core.Path.{◌≡◌, refl}
+use mathlib.Core.Path.{◌≡◌}
 use Rattle.rack.specs.definitions.Table.{tree_of}
 use Rattle.register_image.specs.definitions.Image.{images}
 use Rattle.check_search.specs.definitions.Check.{first_from, at_value}
-use Rattle.check_sweep.proofs.Seen.{Seen, seen_none, seen_more, seen_less, seen_few, seen_found, seen_on, seen_end}
+use Rattle.check_sweep.proofs.Seen.{Seen}
 use Rattle.check_sweep.proofs.sweep.sweep.Given as goal
 
 abbrev pub invariant-loop-i : goal.invariant-loop-i

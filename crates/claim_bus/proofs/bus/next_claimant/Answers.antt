@@ -1,6 +1,5 @@
 use borrow.Author.Rules.{rules}
 use mathlib.Core.Path.{refl}
-use Prim.Native.Nat.{◌-◌}
 use Rattle.claim_bus.proofs.OnBus.{claimant_none, claimant_off, claimant_not, claimant_found}
 use Rattle.claim_bus.proofs.bus.next_claimant.Goals as goal
 

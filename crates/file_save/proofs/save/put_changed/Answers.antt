@@ -1,6 +1,5 @@
 use borrow.Author.Rules.{rules}
-use Prim.Native.Nat.{◌-◌}
-use Rattle.file_save.proofs.Puts.{Putting, puts_all, puts_room, puts_next, puts_end, from_zero}
+use Rattle.file_save.proofs.Puts.{puts_all, puts_room, puts_next, puts_end, from_zero}
 use Rattle.file_save.proofs.save.put_changed.Goals as goal
 
 pub loop-i-init : goal.loop-i-init

@@ -2,7 +2,7 @@ use Prim.Native.Nat.{◌-◌}
 use Rattle.rack.specs.definitions.Table.{tree_of}
 use Rattle.register_image.specs.definitions.Image.{images}
 use Rattle.file_save.specs.definitions.Saved.{register_bytes, registers_of}
-use Rattle.file_save.proofs.Puts.{Putting, puts_all, puts_room, puts_next, puts_end, from_zero}
+use Rattle.file_save.proofs.Puts.{Putting}
 use Rattle.file_save.proofs.save.put_changed.Given as goal
 
 abbrev pub invariant-loop-i : goal.invariant-loop-i

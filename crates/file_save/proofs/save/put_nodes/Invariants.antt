@@ -1,7 +1,7 @@
 use Prim.Native.Nat.{◌-◌}
 use Rattle.rack.specs.definitions.Table.{tree_of}
 use Rattle.file_save.specs.definitions.Saved.{node_bytes, nodes_of}
-use Rattle.file_save.proofs.Puts.{Putting, puts_all, puts_room, puts_next, puts_end, from_zero}
+use Rattle.file_save.proofs.Puts.{Putting}
 use Rattle.file_save.proofs.save.put_nodes.Given as goal
 
 abbrev pub invariant-loop-node : goal.invariant-loop-node

@@ -2,7 +2,7 @@ use Prim.Native.Nat.{◌-◌}
 use Rattle.rack.specs.definitions.Table.{tree_of}
 use Rattle.seat.specs.definitions.Table.{grants_of}
 use Rattle.file_save.specs.definitions.Saved.{seat_of, seats_of}
-use Rattle.file_save.proofs.Puts.{Putting, puts_all, puts_room, puts_next, puts_end}
+use Rattle.file_save.proofs.Puts.{Putting}
 use Rattle.file_save.proofs.save.put_seats.Given as goal
 
 abbrev pub invariant-loop-seat : goal.invariant-loop-seat

@@ -1,6 +1,5 @@
-use Rattle.print_file.proofs.Turns.{FillLeft, turn_inside, turn_fits, turn_less, fill_all, fill_end, fill_word, fill_onward, fill_next}
-use mathlib.Core.Path.{◌≡◌, refl}
-use Prim.Native.Nat.{◌-◌}
+use Rattle.print_file.proofs.Turns.{turn_inside, turn_fits, turn_less, fill_all, fill_end, fill_word, fill_onward, fill_next}
+use mathlib.Core.Path.{refl}
 use borrow.Author.Rules.{rules}
 use Rattle.print_file.proofs.fill.fill.Goals as goal
 

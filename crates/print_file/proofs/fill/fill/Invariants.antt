@@ -1,5 +1,5 @@
-use Rattle.print_file.proofs.Turns.{FillLeft, turn_inside, turn_fits, turn_less, fill_all, fill_end, fill_word, fill_onward, fill_next}
-use mathlib.Core.Path.{◌≡◌, refl}
+use Rattle.print_file.proofs.Turns.{FillLeft}
+use mathlib.Core.Path.{◌≡◌}
 use Prim.Native.Nat.{◌-◌}
 use lib.ListN.{length}
 use Rattle.rack.specs.definitions.Table.{tree_of}

@@ -1,6 +1,5 @@
-use Prim.Native.Nat.{◌-◌}
 use borrow.Author.Rules.{rules}
-use Rattle.print_file.proofs.Pasted.{Pasted, pasted_none, pasted_more, pasted_within, pasted_long, pasted_all}
+use Rattle.print_file.proofs.Pasted.{pasted_none, pasted_more, pasted_within, pasted_long, pasted_all}
 use Rattle.print_file.proofs.line.put_line.Goals as goal
 
 pub loop-i-init : goal.loop-i-init

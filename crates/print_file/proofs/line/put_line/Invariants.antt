@@ -1,5 +1,5 @@
 use Prim.Native.Nat.{◌-◌}
-use Rattle.print_file.proofs.Pasted.{Pasted, pasted_none, pasted_more, pasted_within, pasted_long, pasted_all}
+use Rattle.print_file.proofs.Pasted.{Pasted}
 use Rattle.print_file.proofs.line.put_line.Given as goal
 
 abbrev pub invariant-loop-i : goal.invariant-loop-i

@@ -1,5 +1,4 @@
 use borrow.Author.Rules.{rules}
-use Prim.Native.Nat.{◌≤◌, ◌+◌, ◌-◌}
 use native.Mathlib.Omega.{arith}
 use Rattle.print_line.specs.laws.Added.{added_none}
 use Rattle.print_line.proofs.Copied.{copied_more, copied_all}

@@ -1,4 +1,4 @@
-use mathlib.Core.Path.{◌≡◌, sym}
+use mathlib.Core.Path.{◌≡◌}
 use Prim.Native.Nat.{◌≤◌, ◌-◌}
 use Rattle.rack.specs.definitions.Tree.{bridges_below}
 use Rattle.rack.specs.definitions.Table.{node_at}

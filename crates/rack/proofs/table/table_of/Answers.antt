@@ -1,6 +1,5 @@
 use borrow.Author.Rules.{rules}
-use Prim.Native.Nat.{◌≤◌, ◌-◌}
-use Rattle.rack.proofs.Grown.{tree_to, to_none, to_more, to_room, to_all}
+use Rattle.rack.proofs.Grown.{to_none, to_more, to_room, to_all}
 use Rattle.rack.proofs.table.table_of.Goals as goal
 
 pub loop-i-init : goal.loop-i-init

@@ -1,7 +1,7 @@
 use mathlib.Core.Path.{◌≡◌}
 use Prim.Native.Nat.{◌≤◌, ◌-◌}
 use Rattle.rack.specs.definitions.Table.{tree_of}
-use Rattle.rack.proofs.Grown.{tree_to, to_none, to_more, to_room, to_all}
+use Rattle.rack.proofs.Grown.{tree_to}
 use Rattle.rack.proofs.table.table_of.Given as goal
 
 abbrev pub invariant-loop-i : goal.invariant-loop-i

@@ -1,5 +1,5 @@
 use Prim.Native.Nat.{◌-◌}
-use Rattle.rack.specs.laws.CountLaws.{NoneYet, none_yet, some_next, some_found, some_none}
+use Rattle.rack.specs.laws.CountLaws.{NoneYet}
 use Rattle.rack.specs.definitions.Table.{tree_of}
 use Rattle.register_image.specs.definitions.Image.{images}
 use Rattle.register_image.specs.definitions.Fixed.{node_wrong}

@@ -1,7 +1,6 @@
 use borrow.Author.Rules.{rules}
-use Prim.Native.Nat.{◌-◌}
 use mathlib.Core.Path.{refl}
-use Rattle.rack.specs.laws.CountLaws.{NoneYet, none_yet, some_next, some_found, some_none}
+use Rattle.rack.specs.laws.CountLaws.{none_yet, some_next, some_found, some_none}
 use Rattle.register_image.proofs.Held.{byte_is}
 use Rattle.register_image.proofs.fixed.part_wrong.Goals as goal
 

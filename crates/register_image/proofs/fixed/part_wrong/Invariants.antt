@@ -1,5 +1,5 @@
 use Prim.Native.Nat.{◌-◌}
-use Rattle.rack.specs.laws.CountLaws.{NoneYet, none_yet, some_next, some_found, some_none}
+use Rattle.rack.specs.laws.CountLaws.{NoneYet}
 use Rattle.register_image.specs.definitions.Fixed.{byte_wrong}
 use Rattle.register_image.proofs.fixed.part_wrong.Given as goal
 

@@ -1,7 +1,6 @@
 use borrow.Author.Rules.{rules}
-use Prim.Native.Nat.{◌-◌}
 use mathlib.Core.Path.{refl}
-use Rattle.rack.specs.laws.CountLaws.{NoneYet, none_yet, some_none}
+use Rattle.rack.specs.laws.CountLaws.{none_yet, some_none}
 use Rattle.register_image.proofs.Held.{changed_next, changed_found}
 use Rattle.register_image.proofs.reset.is_changed.Goals as goal
 

@@ -1,5 +1,5 @@
 use Prim.Native.Nat.{◌-◌}
-use Rattle.rack.specs.laws.CountLaws.{NoneYet, none_yet, some_none}
+use Rattle.rack.specs.laws.CountLaws.{NoneYet}
 use Rattle.register_image.specs.definitions.Reset.{byte_changed}
 use Rattle.register_image.proofs.reset.is_changed.Given as goal
 

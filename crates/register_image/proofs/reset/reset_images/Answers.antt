@@ -1,7 +1,6 @@
 use borrow.Author.Rules.{rules}
-use mathlib.Core.Path.{◌≡◌, refl}
-use Prim.Native.Nat.{◌-◌}
-use Rattle.register_image.specs.laws.ResetTurns.{ResetYet, reset_none}
+use mathlib.Core.Path.{refl}
+use Rattle.register_image.specs.laws.ResetTurns.{reset_none}
 use Rattle.register_image.proofs.Filled.{each_next, each_all}
 use Rattle.register_image.proofs.reset.reset_images.Goals as goal
 

@@ -1,10 +1,10 @@
-use mathlib.Core.Path.{◌≡◌, refl}
+use mathlib.Core.Path.{◌≡◌}
 use Prim.Native.Nat.{◌-◌}
 use mathlib.Core.Bool.{true}
 use lib.ListN.{length}
 use Rattle.rack.specs.definitions.Table.{tree_of}
 use Rattle.register_image.specs.definitions.Image.{images}
-use Rattle.register_image.specs.laws.ResetTurns.{ResetYet, reset_none}
+use Rattle.register_image.specs.laws.ResetTurns.{ResetYet}
 use Rattle.register_image.proofs.reset.reset_images.Given as goal
 
 abbrev pub invariant-loop-i : goal.invariant-loop-i

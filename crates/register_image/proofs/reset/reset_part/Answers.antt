@@ -1,5 +1,4 @@
-use mathlib.Core.Path.{◌≡◌, refl}
-use Prim.Native.Nat.{◌-◌, ◌≤◌}
+use mathlib.Core.Path.{refl}
 use borrow.Author.Rules.{rules}
 use Rattle.register_image.proofs.Filled.{bytes_next, bytes_none}
 use Rattle.register_image.proofs.reset.reset_part.Goals as goal

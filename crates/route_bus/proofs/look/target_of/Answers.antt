@@ -1,7 +1,6 @@
 use mathlib.Core.Path.{refl}
-use Prim.Native.Nat.{◌-◌}
 use borrow.Author.Rules.{rules}
-use Rattle.route_bus.proofs.Sits.{sits, sits_off, sits_next, sits_found, sits_none}
+use Rattle.route_bus.proofs.Sits.{sits_off, sits_next, sits_found, sits_none}
 use Rattle.route_bus.proofs.look.target_of.Goals as goal
 
 pub returns-then-devfn-ne0 : goal.returns-then-devfn-ne0

@@ -1,7 +1,7 @@
 use Prim.Native.Nat.{◌-◌}
 use Rattle.rack.specs.definitions.Table.{tree_of}
 use Rattle.claim_agent.specs.laws.ClaimantLaws.{NextYet}
-use Rattle.route_bus.proofs.Sits.{sits, sits_off, sits_next, sits_found, sits_none}
+use Rattle.route_bus.proofs.Sits.{sits}
 use Rattle.route_bus.proofs.look.target_of.Given as goal
 
 abbrev pub invariant-loop-i : goal.invariant-loop-i

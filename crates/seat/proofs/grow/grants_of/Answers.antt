@@ -1,5 +1,4 @@
-use Prim.Native.Nat.{◌≤◌, ◌-◌}
-use Rattle.seat.proofs.Filled.{grants_to, to_none, to_more, to_sound, to_faulty}
+use Rattle.seat.proofs.Filled.{to_none, to_more, to_sound, to_faulty}
 use borrow.Author.Rules.{rules}
 use Rattle.seat.proofs.grow.grants_of.Goals as goal
 

@@ -1,7 +1,7 @@
 use mathlib.Core.Path.{◌≡◌}
 use Prim.Native.Nat.{◌≤◌, ◌-◌}
 use Rattle.seat.specs.definitions.Table.{grants_of}
-use Rattle.seat.proofs.Filled.{grants_to, to_none, to_more, to_sound, to_faulty}
+use Rattle.seat.proofs.Filled.{grants_to}
 use Rattle.seat.proofs.grow.grants_of.Given as goal
 
 abbrev pub invariant-loop-at : goal.invariant-loop-at

@@ -1,5 +1,4 @@
-use Prim.Native.Nat.{◌-◌}
-use Rattle.seat.proofs.Filled.{SoundYet, missing_none, missing_next, missing_found}
+use Rattle.seat.proofs.Filled.{missing_none, missing_next, missing_found}
 use borrow.Author.Rules.{rules}
 use Rattle.seat.proofs.grow.names_missing.Goals as goal
 

@@ -1,5 +1,5 @@
 use Prim.Native.Nat.{◌-◌}
-use Rattle.seat.proofs.Filled.{SoundYet, missing_none, missing_next, missing_found}
+use Rattle.seat.proofs.Filled.{SoundYet}
 use Rattle.seat.proofs.grow.names_missing.Given as goal
 
 abbrev pub invariant-loop-k : goal.invariant-loop-k

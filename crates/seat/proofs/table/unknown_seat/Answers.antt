@@ -1,5 +1,4 @@
-use Prim.Native.Nat.{◌-◌}
-use Rattle.seat.proofs.Asked.{UnnamedYet, known_zero, unknown_none, unknown_next, known_found}
+use Rattle.seat.proofs.Asked.{known_zero, unknown_none, unknown_next, known_found}
 use borrow.Author.Rules.{rules}
 use Rattle.seat.proofs.table.unknown_seat.Goals as goal
 

@@ -1,6 +1,6 @@
 use Prim.Native.Nat.{◌-◌}
 use Rattle.seat.specs.definitions.Table.{grants_of}
-use Rattle.seat.proofs.Asked.{UnnamedYet, known_zero, unknown_none, unknown_next, known_found}
+use Rattle.seat.proofs.Asked.{UnnamedYet}
 use Rattle.seat.proofs.table.unknown_seat.Given as goal
 
 abbrev pub invariant-loop-node : goal.invariant-loop-node

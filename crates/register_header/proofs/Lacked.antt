@@ -9,7 +9,7 @@ use Rattle.register_header.specs.declared.Options.{Options}
 use Rattle.register_header.specs.definitions.Tables.{write_table, clear_table, reset_table}
 use Rattle.register_header.specs.definitions.Options.{options_of, is_in, lacked}
 use Rattle.register_header.specs.definitions.PciRegs.{PREF_BASE_UPPER32, IO_BASE_UPPER16, BRIDGE_CONTROL}
-use Rattle.register_header.specs.laws.Disjoint.{cond_lt}
+use Rattle.register_header.proofs.Disjoint.{cond_lt}
 use Rattle.register_header.specs.laws.Every.{every, write_long, clear_long, reset_long, past, everywhere}
 
 -- the bits of an entry that a write can change or that are 1 at reset

@@ -10,7 +10,7 @@ use Rattle.rack.specs.definitions.Node.{is_bridge}
 use Rattle.register_header.specs.definitions.PciRegs.{BASE_ADDRESS}
 use Rattle.register_header.specs.laws.ByteLaws.{restored}
 use Rattle.register_header.specs.definitions.Mask.{write_mask, clear_mask}
-use Rattle.register_header.specs.laws.Disjoint.{write_lt, region_clear}
+use Rattle.register_header.proofs.Disjoint.{write_lt, region_clear}
 use Rattle.register_header.specs.definitions.Register.{read_register, write_byte, write_dword, write_register}
 use Rattle.register_header.specs.laws.Dword.{byte0, byte1, byte2, byte3}
 use Rattle.register_header.specs.definitions.Sizing.{written_back}
