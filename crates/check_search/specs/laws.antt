@@ -1,4 +1,2 @@
 pub mod FirstLaws
 pub mod Stretch
-pub mod StretchLaws
-pub mod Swept

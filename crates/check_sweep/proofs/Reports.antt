@@ -12,7 +12,7 @@ use Rattle.claim_agent.specs.declared.Space.TheVariants.{Memory, Io, Configurati
 use Rattle.check_search.specs.declared.Report.{Report}
 use Rattle.check_search.specs.declared.Report.TheVariants.{Pass}
 use Rattle.check_search.specs.definitions.Check.{is_fault, or_else, first_in, in_space, bus_report, check}
-use Rattle.check_search.specs.laws.StretchLaws.{two_agents}
+use Rattle.check_search.proofs.StretchLaws.{two_agents}
 use Rattle.check_search.specs.laws.FirstLaws.{else_found, else_next, else_pass, in_step, bridges_step, bridges_end}
 
 module _ (t : Tree) (im : Images) (bus : ℕ) {c : Report} {b : Bool}

@@ -17,7 +17,7 @@ use Rattle.check_search.specs.definitions.Check.{is_fault, first_from, at_value}
 use Rattle.check_search.specs.definitions.Gathered.{nobody, Gathered}
 use Rattle.check_search.specs.laws.Stretch.{until_all, claiming}
 use Rattle.check_search.specs.laws.FirstLaws.{else_found, from_step, pass_is, from_end}
-use Rattle.check_search.specs.laws.StretchLaws.{until_step, until_end, claiming_step, claiming_end, all_kept, leap, few_claim}
+use Rattle.check_search.proofs.StretchLaws.{until_step, until_end, claiming_step, claiming_end, all_kept, leap, few_claim}
 
 -- within a list it does not matter what is outside
 get_d_any : {A : Type 0} (l : List A) (i : ℕ) (d e : A) → i < length l → get_or l i d ≡ get_or l i e

@@ -23,12 +23,7 @@ pub fn rack_save<'a>(
 // Both images as a run of a whole file starts from them. The answer is how many bytes stand before its first register record or event, and
 // both node counts. Returns 0, or the refusal's number with both images untouched and `answer` all 0, but for both counts where an image has the
 // wrong length.
-pub fn rack_open(
-    file: &[u8],
-    bridges: &mut [u8],
-    devices: &mut [u8],
-    answer: &mut [u64; 8],
-) -> u8
+pub fn rack_open(file: &[u8], bridges: &mut [u8], devices: &mut [u8], answer: &mut [u64; 8]) -> u8
     ensures { called result answer.new bridges.new devices.new ≡ rack_open file.now (images bridges.old devices.old) }
 {
     open_file(file, bridges, devices, answer)

@@ -1,4 +1,5 @@
--- What the functions' proofs use.
+-- What the functions' proofs use, and the theorems over the parts that are the code's: an edit of them has to break these.
+pub mod FillingLaws
 mod First
 mod Pasted
 mod Ran

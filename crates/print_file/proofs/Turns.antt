@@ -16,7 +16,7 @@ use Rattle.print_line.specs.definitions.Line.{text_of}
 use Rattle.print_file.specs.declared.Cursor.{Cursor}
 use Rattle.print_file.specs.definitions.Filling.{Part, behind, past, ran_at, line_at, ends, part_up_to, part_of}
 use Rattle.print_file.specs.definitions.Fills.{Fills, Onward}
-use Rattle.print_file.specs.laws.FillingLaws.{on, part_stop, part_step, progress}
+use Rattle.print_file.proofs.FillingLaws.{on, part_stop, part_step, progress}
 
 -- a list with a text put in at an index
 abbrev put_in : List ℕ → ℕ → List ℕ → ℕ → List ℕ

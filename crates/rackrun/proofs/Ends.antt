@@ -16,7 +16,7 @@ use Rattle.file_record.specs.laws.RecordLaws.{size_least}
 use Rattle.print_file.specs.declared.Cursor.{Cursor}
 use Rattle.print_file.specs.definitions.Filling.{Part, past, ran_at, line_at, ends, part_up_to}
 use Rattle.print_file.specs.definitions.Place.{Place, place, after_part, end_up_to, end_of}
-use Rattle.print_file.specs.laws.FillingLaws.{on, part_stop, part_step}
+use Rattle.print_file.proofs.FillingLaws.{on, part_stop, part_step}
 use Rattle.print_output.specs.declared.Rest.{Rest}
 use Rattle.print_output.specs.declared.Rest.TheVariants.{Refused, Events, Nothing}
 use Rattle.print_output.specs.definitions.Rest.{standing, is_done, at_place, end_from}

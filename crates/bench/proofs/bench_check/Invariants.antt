@@ -1,4 +1,4 @@
-use mathlib.Core.Path.{◌≡◌, refl, sym, ◌∙◌}
+use mathlib.Core.Path.{◌≡◌}
 use Prim.Native.Nat.{◌-◌, ◌≤◌}
 use Rattle.rack.specs.definitions.Table.{tree_of}
 use Rattle.rack.specs.definitions.Refusal.{rack_refusal}

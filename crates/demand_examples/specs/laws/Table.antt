@@ -25,7 +25,7 @@ use Rattle.event_run.specs.definitions.Run.{register_of, reached, ended_at, even
 use Rattle.check_search.specs.declared.Report.TheVariants.{Pass, Fault}
 use Rattle.check_search.specs.definitions.Check.{first_in, shown, at_value, check}
 use Rattle.check_search.specs.laws.Stretch.{until_all}
-use Rattle.check_search.specs.laws.Swept.{decoded, sweep_by, first_by, on_bus_by, check_by, checked}
+use Rattle.check_search.proofs.Swept.{decoded, sweep_by, first_by, on_bus_by, check_by, checked}
 use Rattle.claim_window.specs.definitions.Window.{windows_of}
 use Rattle.claim_window.specs.definitions.Inside.{inside_memory, inside_io, memory_until, io_until}
 use Rattle.demand_examples.specs.definitions.Rows.{all, rows, rack_of, images_of, three, two}

@@ -2,7 +2,7 @@
 -- held nodes left out. Both are one search, over other claimants and other drivers.
 use Rattle.std.proofs.Math.Path.{◌≡◌, refl, ap, subst}
 use Rattle.std.proofs.Common.{sym, ◌∙◌, inl, inr, eq-or-lt_of_le}
-use Rattle.std.specs.Prelude.{true, false, eqb, length}
+use Rattle.std.specs.Prelude.{true, eqb, length}
 use Rattle.std.proofs.lemmas.Bool.{false≢true}
 use Rattle.std.proofs.Math.Logic.{⊎_elim}
 use mathlib.Core.List.{List, [], ◌∷◌}
@@ -24,7 +24,7 @@ use Rattle.check_search.specs.declared.Report.{Report}
 use Rattle.check_search.specs.declared.Report.TheVariants.{Pass, Fault}
 use Rattle.check_search.specs.definitions.Check as checked
 use Rattle.check_search.specs.definitions.Check.{first_in, first_from, shown, drivers_of, first_of, bus_report, check}
-use Rattle.check_search.specs.laws.StretchLaws.{fewer_shown}
+use Rattle.check_search.proofs.StretchLaws.{fewer_shown}
 use Rattle.held_laws.specs.definitions.Others.{other_claimants, other_drivers, other_check}
 use Rattle.held_laws.specs.laws.Others.{others_claim, at_most_one}
 use Rattle.held_laws.specs.laws.OtherCheck.{check_others}

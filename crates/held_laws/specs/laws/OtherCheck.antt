@@ -17,7 +17,7 @@ use Rattle.claim_laws.specs.laws.Held.{Asked}
 use Rattle.check_search.specs.declared.Report.{Report}
 use Rattle.check_search.specs.declared.Report.TheVariants.{Pass}
 use Rattle.check_search.specs.definitions.Check.{first_in, first_from, shown, driven_by, drivers_of, at_value, first_of, in_space, bus_report, check}
-use Rattle.check_search.specs.laws.StretchLaws.{fewer_shown}
+use Rattle.check_search.proofs.StretchLaws.{fewer_shown}
 use Rattle.held_laws.specs.definitions.Others.{other_claimants, other_drivers, other_check}
 use Rattle.held_laws.specs.laws.Others.{others_claim, held_bus_one, free_drivers}
 

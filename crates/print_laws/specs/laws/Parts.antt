@@ -13,7 +13,7 @@ use Rattle.file_record.specs.declared.Event.{Event}
 use Rattle.print_file.specs.declared.Cursor.{Cursor}
 use Rattle.print_file.specs.definitions.Output.{lines_of, events_at}
 use Rattle.print_file.specs.definitions.Filling.{Part, past, ran_at, line_at, ends, part_up_to, part_of}
-use Rattle.print_file.specs.laws.FillingLaws.{on, part_stop, part_step}
+use Rattle.print_file.proofs.FillingLaws.{on, part_stop, part_step}
 use Rattle.print_laws.specs.laws.Events.{events_past, events_first}
 
 module _ (t : Tree) (g : Grants) (b : List ℕ) where

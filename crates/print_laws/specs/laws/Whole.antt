@@ -16,7 +16,7 @@ use Rattle.print_line.specs.definitions.Line.{refused_line}
 use Rattle.print_file.specs.declared.Cursor.{Cursor}
 use Rattle.print_file.specs.definitions.Output.{blank, first_at, output_of}
 use Rattle.print_file.specs.definitions.Filling.{part_of}
-use Rattle.print_file.specs.laws.FillingLaws.{progress}
+use Rattle.print_file.proofs.FillingLaws.{progress}
 use Rattle.print_laws.specs.laws.Parts.{lines_at, lines_past, part_lines}
 use Rattle.print_laws.specs.definitions.Calls.{calls_up_to}
 

@@ -1,4 +1,3 @@
-use Prim.Native.Nat.{◌-◌}
 use Rattle.callrun.proofs.asked.grants_in.Goals as goal
 
 pub loop-k-init : goal.loop-k-init

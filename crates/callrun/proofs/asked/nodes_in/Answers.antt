@@ -1,4 +1,3 @@
-use Prim.Native.Nat.{◌-◌}
 use Rattle.callrun.proofs.asked.nodes_in.Goals as goal
 
 pub loop-i-init : goal.loop-i-init

@@ -1,6 +1,6 @@
-use mathlib.Core.Path.{◌≡◌, refl}
+use mathlib.Core.Path.{◌≡◌}
 use Prim.Native.Nat.{◌-◌}
-use lib.ListN.{length, length-set}
+use lib.ListN.{length}
 use Rattle.callrun.proofs.script.fill_with.Given as goal
 
 abbrev pub invariant-loop-i : goal.invariant-loop-i

@@ -18,7 +18,7 @@ use Rattle.check_search.specs.definitions.Check.{or_else, first_in, first_from, 
 use Rattle.check_search.specs.definitions.Gathered.{nobody, Gathered}
 use Rattle.check_search.specs.laws.Stretch.{until_all}
 use Rattle.check_search.specs.laws.FirstLaws.{from_step, from_end}
-use Rattle.check_search.specs.laws.StretchLaws.{leap}
+use Rattle.check_search.proofs.StretchLaws.{leap}
 
 -- agents of a bus, decoded
 unfoldable pub decoded : Tree → Images → ℕ → List ℕ → List Agent
