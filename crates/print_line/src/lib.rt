@@ -1,11 +1,11 @@
 // The line of each answer, byte for byte as document 01, 'The program', prints it.
 #![tactic(auto)]
 
+pub mod acting;
 pub mod ending;
 mod field;
 pub mod refused;
 pub mod report;
-pub mod seat;
 mod text;
 
 // A line is its first `len` bytes.

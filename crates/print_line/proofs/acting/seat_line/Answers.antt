@@ -1,7 +1,7 @@
 use Rattle.print_line.specs.definitions.Text.{codes_of}
 use Rattle.print_line.proofs.Fields.{line_field, line_ended}
 use borrow.Author.Rules.{rules}
-use Rattle.print_line.proofs.seat.seat_line.Goals as goal
+use Rattle.print_line.proofs.acting.seat_line.Goals as goal
 
 pub returns : goal.returns
 unfolding codes_of
