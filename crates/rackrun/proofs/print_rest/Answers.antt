@@ -1,5 +1,5 @@
-use Rattle.rackrun.proofs.Parts.{not_done, Printing, printing_none, printing_stands, printing_done, printing_next, printing_less}
-use mathlib.Core.Path.{◌≡◌, refl}
+use Rattle.rackrun.proofs.Parts.{not_done, printing_none, printing_stands, printing_done, printing_next, printing_less}
+use mathlib.Core.Path.{refl}
 use borrow.Author.Rules.{rules}
 use Rattle.rackrun.proofs.print_rest.Goals as goal
 

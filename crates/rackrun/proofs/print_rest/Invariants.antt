@@ -1,5 +1,5 @@
-use Rattle.rackrun.proofs.Parts.{not_done, Printing, printing_none, printing_stands, printing_done, printing_next, printing_less}
-use mathlib.Core.Path.{◌≡◌, refl}
+use Rattle.rackrun.proofs.Parts.{Printing}
+use mathlib.Core.Path.{◌≡◌}
 use lib.ListN.{length}
 use Rattle.rack.specs.definitions.Table.{tree_of}
 use Rattle.seat.specs.definitions.Table.{grants_of}

@@ -21,12 +21,13 @@ pub slice_bounds-print_loaded-end-2 : goal.slice_bounds-print_loaded-end-2
 slice_bounds-print_loaded-end-2 c = search (zeros_part, rules)
 
 pub print_loaded-requires : goal.print_loaded-requires
-print_loaded-requires c =
-    (search rules,
-    λ z.
-    parts_blank (tree_of c.load_file-l.result.table) c.room_of-room.result.bridges c.room_of-room.result.devices _ _
-    c.bridges_image-bridges.ensures c.devices_image-devices.ensures c.room_of-room.ensures.0 c.room_of-room.ensures.1
-    c.room_of-room.ensures.2 z)
+print_loaded-requires c = (
+  search rules,
+  λ z.
+      parts_blank (tree_of c.load_file-l.result.table) c.room_of-room.result.bridges c.room_of-room.result.devices _ _
+      c.bridges_image-bridges.ensures c.devices_image-devices.ensures c.room_of-room.ensures.0 c.room_of-room.ensures.1
+      c.room_of-room.ensures.2 z,
+)
 
 pub returns : goal.returns
 returns c = search (printed_all, rules)
