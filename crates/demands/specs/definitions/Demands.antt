@@ -303,7 +303,7 @@ pub record Demand1 : Type 0 where
 --
 -- Each contract is an equation between what a function gives, with both images at exit, and a definition:
 --
---   seat             table::may_write               Grants.mayWrite
+--   seat             table::may_write               Grants.may_write
 --                    grow::grants_of                Grants.grants
 --   register_header  edition::options_of            Options.options_of
 --                    register::read_register        Register.read_register
@@ -320,7 +320,7 @@ pub record Demand1 : Type 0 where
 --                    store::store_node              Store.store_node
 --   claim_decode     decode::windows_of             Window.windows_of
 --                    region::area_of                Area.area_of
---   claim_agent      Agent::claims                  Claim.claimsOf
+--   claim_agent      Agent::claims                  Claim.claims_of
 --   claim_bus        decode::agent_at               Agent.agent_of
 --                    bus::claimants_of              Claimants.claimants
 --                    ends::window_ends              WindowEnds.window_ends
@@ -333,9 +333,9 @@ pub record Demand1 : Type 0 where
 --   file_start       start_images                   Start.start_from
 --   file_save        save::save                     Saved.saved_file
 --   event_run        run::answer_event              Run.event_run
---   print_file       fill::fill                     Filling.partOf
---   print_output     left::first_rest               Rest.firstOf
---                    part::put_part                 Piece.pieceOf, which goes on with Rest.output_from
+--   print_file       fill::fill                     Filling.part_of
+--   print_output     left::first_rest               Rest.first_of
+--                    part::put_part                 Piece.piece_of, which goes on with Rest.output_from
 --   call_open        read_register, write_register  Call.read_in, Call.stored_in
 --                    view, size_region              Call.view_in, Call.size_in
 --                    window_ends                    Call.ends_in
