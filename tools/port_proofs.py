@@ -4,13 +4,15 @@
 usage: tools/port_proofs.py CRATE..     at the top of the repository, where the crates below are proved
 
 An answer that only searches the rules goes: the check finds it. Steps and goals get the names that `rt check --generated --old-names` gives.
-What is not understood is said on a line that begins 'left:', and the old file stays as /tmp/w/old/CRATE/.."""
+What is not understood is said on a line that begins 'left:'; the old files stand below the folder of temporary files, in port-proofs/."""
 import json
 import os
 import re
 import subprocess
 import sys
+import tempfile
 
+ROOM = os.path.join(tempfile.gettempdir(), "port-proofs")
 WORD = r"[^\s(){}.;,@\"«»\[\]|]+"
 
 
@@ -252,7 +254,7 @@ def convert(crate, path, folder, rows, left):
 def main():
     for crate in sys.argv[1:]:
         where = os.path.join("crates", crate)
-        made = f"/tmp/w/names/{crate}"
+        made = os.path.join(ROOM, "names", crate)
         os.makedirs(made, exist_ok=True)
         said = subprocess.run(["rt", "check", "--generated", made, "--old-names"], cwd=where, capture_output=True, text=True)
         try:
@@ -272,7 +274,7 @@ def main():
                 left.append(f"{path}: not among the names")
                 continue
             out = convert(crate, path, folder, rows[key], left)
-            keep = os.path.join("/tmp/w/old", crate, folder)
+            keep = os.path.join(ROOM, "old", crate, folder)
             os.makedirs(keep, exist_ok=True)
             os.replace(path, os.path.join(keep, "Proof.antt"))
             for name, text in out.items():
