@@ -4,10 +4,11 @@
 
 ghost use Rattle.std.specs.Prelude.{◌≡◌, ◌<◌};
 ghost use Rattle.arbiter.specs.definitions.Rings.{high_ring, low_ring};
-ghost use Rattle.arbiter.specs.definitions.Arbiter.{is_state, refused, step, arbitrate};
+ghost use Rattle.arbiter.specs.definitions.Arbiter.{is_state, refused, step, turn_of, arbitrate};
 
 pub mod ring;
 
+use rack::refusal::Refusal;
 use ring::{LOW_PLACE, MEMBERS, NONE, has, high_requests, low_requests, next_after};
 
 // What each ring granted last: a member's number, `LOW_PLACE` in the high ring, or `NONE` yet.
@@ -17,18 +18,11 @@ pub struct State {
     pub low: u8,
 }
 
-// What a step gives: the member granted, or `NONE`, and the state after.
+// What a step gives: the member granted, if there is one, and the state after.
 #[derive(Clone, Copy)]
 pub struct Turn {
-    pub member: u8,
+    pub member: Option<u8>,
     pub after: State,
-}
-
-#[derive(Clone, Copy)]
-pub enum Arbitration {
-    Refused(u8),
-    NoGrant(State),
-    Grant { member: u8, after: State },
 }
 
 fn is_high_state(mask: u16, last: u8) -> bool
@@ -61,27 +55,26 @@ fn refused(mask: u16, requests: u16, s: State) -> bool
 // One request set. A grant to a high member leaves the low ring as it was.
 fn step(mask: u16, requests: u16, s: State) -> Turn
     requires { requests < 1024 }
-    ensures { result ≡ step mask requests s }
+    ensures { result ≡ turn_of (step mask requests s) }
 {
     let low = next_after(low_requests(mask, requests), s.low);
-    let place = next_after(high_requests(mask, requests, low), s.high);
+    let Some(place) = next_after(high_requests(mask, requests, low.is_some()), s.high) else {
+        return Turn {
+            member: None,
+            after: s,
+        };
+    };
     if place == LOW_PLACE {
         return Turn {
             member: low,
             after: State {
                 high: LOW_PLACE,
-                low,
+                low: low.unwrap_or(NONE),
             },
         };
     }
-    if place == NONE {
-        return Turn {
-            member: NONE,
-            after: s,
-        };
-    }
     Turn {
-        member: place,
+        member: Some(place),
         after: State {
             high: place,
             low: s.low,
@@ -90,19 +83,11 @@ fn step(mask: u16, requests: u16, s: State) -> Turn
 }
 
 // One set of requests: who is granted the bus, and the state after; or refusal 20.
-pub fn arbitrate(mask: u16, requests: u16, s: State) -> Arbitration
+pub fn arbitrate(mask: u16, requests: u16, s: State) -> Result<Turn, Refusal>
     ensures { result ≡ arbitrate mask requests s }
 {
     if refused(mask, requests, s) {
-        return Arbitration::Refused(20);
+        return Err(Refusal::BadArbitration);
     }
-    let t = step(mask, requests, s);
-    let after = t.after;
-    if t.member == NONE {
-        return Arbitration::NoGrant(after);
-    }
-    Arbitration::Grant {
-        member: t.member,
-        after,
-    }
+    Ok(step(mask, requests, s))
 }

@@ -11,8 +11,9 @@ use call_numbers::{put_three, put_value, refuse};
 use call_save::save_on;
 use file_load::{load_alone, load_file};
 use file_start::start_images;
+use rack::refusal::Refusal;
 use rack::table::{Table, bridges_below, count_of};
-use register_image::fixed::lengths_wrong;
+use register_image::{Registers, RegistersMut};
 
 // The rack's file into the buffer. 0, or the refusal's number with `answer` all 0 and the buffer untouched.
 pub fn save_bytes<'a>(
@@ -24,13 +25,16 @@ pub fn save_bytes<'a>(
 ) -> u8
     ensures { filed result answer.new buffer.new ≡ rack_save rack.now (images bridges.now devices.now) buffer.old }
 {
-    let l = load_alone(rack);
-    if l.refusal != 0 {
-        return refuse(answer, l.refusal);
-    }
-    let grants = l.grants;
-    let n = save_on(&l.table, &grants, bridges, devices, buffer);
-    put_value(answer, n)
+    let l = match load_alone(rack) {
+        Ok(l) => l,
+        Err(r) => return refuse(answer, u8::from(r.refusal)),
+    };
+    let registers = Registers {
+        table: &l.table,
+        bridges,
+        devices,
+    };
+    put_value(answer, save_on(&registers, &l.grants, buffer))
 }
 
 // A number, the count of bridges and that of devices.
@@ -51,15 +55,20 @@ fn put_sizes(answer: &mut [u64; 8], before: usize, table: &Table)
 pub fn open_file(file: &[u8], bridges: &mut [u8], devices: &mut [u8], answer: &mut [u64; 8]) -> u8
     ensures { called result answer.new bridges.new devices.new ≡ rack_open file.now (images bridges.old devices.old) }
 {
-    let l = load_file(file);
-    if l.refusal != 0 {
-        return refuse(answer, l.refusal);
+    let l = match load_file(file) {
+        Ok(l) => l,
+        Err(r) => return refuse(answer, u8::from(r.refusal)),
+    };
+    let mut registers = RegistersMut {
+        table: &l.table,
+        bridges,
+        devices,
+    };
+    if registers.lent().lengths_wrong() {
+        put_sizes(answer, 0, registers.table);
+        return u8::from(Refusal::WrongLength);
     }
-    if lengths_wrong(&l.table, bridges, devices) {
-        put_sizes(answer, 0, &l.table);
-        return 11;
-    }
-    put_sizes(answer, l.registers, &l.table);
-    start_images(file, &l.table, l.registers, l.offset, bridges, devices);
+    put_sizes(answer, l.registers, registers.table);
+    start_images(file, &mut registers, l.registers, l.offset);
     0
 }

@@ -1,113 +1,93 @@
 // Calls that name a node, over the table of a rack.
 #![tactic(auto)]
 
+ghost use Rattle.register_image.specs.definitions.Lent.{tree_in, images_in};
+ghost use Rattle.register_image.specs.definitions.LentMut.{tree_at, images_at, Same};
 ghost use Rattle.std.specs.Prelude.{◌≡◌};
-ghost use Rattle.rack.specs.definitions.Table.{tree_of};
+ghost use Rattle.rack.specs.definitions.Refused.{number_of};
 ghost use Rattle.seat.specs.definitions.Table.{grants_of};
-ghost use Rattle.register_image.specs.definitions.Image.{images};
-ghost use Rattle.call_table.specs.definitions.Call.{refusal_by, read_in, store_refusal, stored_in, view_in, size_in, ends_in};
+ghost use Rattle.call_table.specs.definitions.Call.{numbered, refusal_by, read_in, store_refusal, stored_in, view_in, size_in, ends_in};
 
+use bus_reset::store::store_node;
 use call_table::refusal::{
     read_refusal, refusal_by, region_refusal, store_refusal, view_refusal, window_refusal,
 };
-use call_table::{Number, RangeReply};
-use rack::table::Table;
+use claim_bus::ends::window_ends;
+use rack::Range;
+use rack::refusal::Refusal;
+use register_header::register::read_register;
+use register_image::{Registers, RegistersMut};
 use seat::table::GrantTable;
 
 // A dword of a node's registers.
-pub fn read_on<'a>(
-    table: &Table,
+pub fn read_on(
+    registers: &Registers,
     grants: &GrantTable,
-    bridges: &'a [u8],
-    devices: &'a [u8],
     node: u8,
     register: u8,
-) -> Number
-    ensures { result ≡ read_in (tree_of table.now) (grants_of grants.now) (images bridges.now devices.now) node register }
+) -> Result<u64, Refusal>
+    ensures { numbered result ≡ read_in (tree_in registers.now) (grants_of grants.now) (images_in registers.now) node register }
 {
-    let field = read_refusal(table, node, register);
-    let refusal = refusal_by(table, grants, bridges, devices, field, 0);
-    if refusal != 0 {
-        return Number::Refused(refusal);
-    }
-    let part = register_image::image::view(table, bridges, devices, node);
-    Number::Value(register_header::register::read_register(part, register) as u64)
+    let field = read_refusal(registers.table, node, register);
+    refusal_by(registers, grants, field, Ok(()))?;
+    let part = registers.view(node);
+    Ok(u64::from(read_register(part, register)))
 }
 
-// A register write of a node; the refusal's number, 0 where it is accepted.
+// A register write of a node.
 pub fn write_on(
-    table: &Table,
+    registers: &mut RegistersMut,
     grants: &GrantTable,
-    bridges: &mut [u8],
-    devices: &mut [u8],
     node: u8,
     register: u8,
     enables: u8,
     put: u32,
-) -> u8
-    ensures { (result ≡ refusal_by (tree_of table.now) (grants_of grants.now) (images bridges.old devices.old) (store_refusal (tree_of table.now) node register enables) 0) × (images bridges.new devices.new ≡ stored_in (tree_of table.now) (grants_of grants.now) (images bridges.old devices.old) node register enables put) }
+) -> Result<(), Refusal>
+    ensures leaves { (number_of result ≡ refusal_by (tree_at registers.old) (grants_of grants.now) (images_at registers.old) (store_refusal (tree_at registers.old) node register enables) 0) × (images_at registers.new ≡ stored_in (tree_at registers.old) (grants_of grants.now) (images_at registers.old) node register enables put) }
+    ensures same { Same registers.old registers.new }
 {
-    let field = store_refusal(table, node, register, enables);
-    let number = refusal_by(table, grants, bridges, devices, field, 0);
-    if number != 0 {
-        return number;
-    }
-    bus_reset::store::store_node(table, bridges, devices, node, register, enables, put);
-    0
+    let field = store_refusal(registers.table, node, register, enables);
+    refusal_by(&registers.lent(), grants, field, Ok(()))?;
+    store_node(registers, node, register, enables, put);
+    Ok(())
 }
 
 // The register view: the 64 bytes of a node; an empty part where the call is refused.
-pub fn view_on<'a>(
-    table: &Table,
-    grants: &GrantTable,
-    bridges: &'a [u8],
-    devices: &'a [u8],
-    node: u8,
-) -> &'a [u8]
-    ensures { result.now ≡ view_in (tree_of table.now) (grants_of grants.now) (images bridges.now devices.now) node }
+pub fn view_on<'a>(registers: &Registers<'_, 'a>, grants: &GrantTable, node: u8) -> &'a [u8]
+    ensures { result.now ≡ view_in (tree_in registers.now) (grants_of grants.now) (images_in registers.now) node }
 {
-    let field = view_refusal(table, node);
-    let refusal = refusal_by(table, grants, bridges, devices, field, 0);
-    if refusal != 0 {
-        return &bridges[0..0];
+    let field = view_refusal(registers.table, node);
+    match refusal_by(registers, grants, field, Ok(())) {
+        Ok(()) => registers.view(node),
+        Err(_) => &registers.bridges[0..0],
     }
-    register_image::image::view(table, bridges, devices, node)
 }
 
 // The size of a device's region, found by writing all ones; both images are then what they were.
 pub fn size_on(
-    table: &Table,
+    registers: &mut RegistersMut,
     grants: &GrantTable,
-    bridges: &mut [u8],
-    devices: &mut [u8],
     node: u8,
     region: u8,
-) -> Number
-    ensures { (result ≡ size_in (tree_of table.now) (grants_of grants.now) (images bridges.old devices.old) node region) × (images bridges.new devices.new ≡ images bridges.old devices.old) }
+) -> Result<u64, Refusal>
+    ensures leaves { (numbered result ≡ size_in (tree_at registers.old) (grants_of grants.now) (images_at registers.old) node region) × (images_at registers.new ≡ images_at registers.old) }
+    ensures same { Same registers.old registers.new }
 {
-    let field = region_refusal(table, node, region);
-    let refusal = refusal_by(table, grants, bridges, devices, field, 0);
-    if refusal != 0 {
-        return Number::Refused(refusal);
-    }
-    Number::Value(register_image::sizing::size_region(table, bridges, devices, node, region))
+    let field = region_refusal(registers.table, node, region);
+    refusal_by(&registers.lent(), grants, field, Ok(()))?;
+    Ok(registers.size_region(node, region))
 }
 
 // Both ends of window k of a bridge (0 memory, 1 prefetchable, 2 I/O), or of region k of a device.
-pub fn ends_on<'a>(
-    table: &Table,
+pub fn ends_on(
+    registers: &Registers,
     grants: &GrantTable,
-    bridges: &'a [u8],
-    devices: &'a [u8],
     node: u8,
     k: u8,
-) -> RangeReply
-    ensures { result ≡ ends_in (tree_of table.now) (grants_of grants.now) (images bridges.now devices.now) node k }
+) -> Result<Range, Refusal>
+    ensures { numbered result ≡ ends_in (tree_in registers.now) (grants_of grants.now) (images_in registers.now) node k }
 {
-    let field = window_refusal(table, node, k);
-    let refusal = refusal_by(table, grants, bridges, devices, field, 0);
-    if refusal != 0 {
-        return RangeReply::Refused(refusal);
-    }
-    RangeReply::Range(claim_bus::ends::window_ends(table, bridges, devices, node, k))
+    let field = window_refusal(registers.table, node, k);
+    refusal_by(registers, grants, field, Ok(()))?;
+    Ok(window_ends(registers, node, k))
 }

@@ -1,19 +1,27 @@
--- What is told of a range: nothing where it is empty, else its ends.
-use mathlib.Core.Path.{◌≡◌}
-use mathlib.Core.List.{List, [], ◌∷◌}
-use Prim.Native.Nat.{ℕ, ◌≤◌, ◌<◌}
-use borrow.Author.Tests.{lt-ltb, le-ltb}
-use Rattle.rack.specs.declared.Range.{Range}
-use Rattle.call_table.specs.declared.RangeReply.{RangeReply}
-use Rattle.call_table.specs.declared.RangeReply.TheVariants as range-reply
-use Rattle.call_numbers.specs.definitions.Numbers.{zeros, ends_code, ends_numbers}
+-- Numbers with zeros after them, and what is told of a reply.
+use Rattle.std.specs.Prelude.{◌≡◌, ℕ, ◌+◌, ◌-◌, ◌≤◌, List, ◌++◌, length, take, drop, Ok, Err, Result, MatchResult, IsOkAnd}
+use Rattle.std.specs.Result.{result_unwrap_or}
+use Rattle.std.proofs.Common.{sym, ap, ◌∙◌, arith}
+use Rattle.std.proofs.lemmas.List.{drop-replicate, take-replicate}
+use Rattle.std.proofs.Math.Seq.{take-append-add}
+use Rattle.rack.specs.declared.refusal.Refusal.{Refusal}
+use Rattle.rack.specs.definitions.Refused.{refusal_number, number_of}
+use Rattle.call_table.specs.definitions.Call.{Reply, numbered}
+use Rattle.call_numbers.specs.definitions.Numbers.{zeros}
 
-module _ {e : RangeReply} {r : Range} (ee : e ≡ range-reply.Range r) where
-  pub accepted_told : 0 ≡ ends_code e
-  accepted_told = rw ee
+pub padded : (xs : List ℕ) → length xs ≤ 8 → xs ++ drop (length xs) zeros ≡ take 8 (xs ++ zeros)
+padded xs h =
+    let n = length xs in
+    let e : 8 ≡ n + (8 - n) = omega arith in
+    let l : 8 - n ≤ 8 = omega arith in
+    ap (λ (ys : List ℕ). xs ++ ys) (drop-replicate n 8 0 ∙ sym (take-replicate (8 - n) 8 0 l))
+    ∙ sym (ap (λ (k : ℕ). take k (xs ++ zeros)) e ∙ take-append-add xs zeros (8 - n))
 
-  pub none_told : {ns : List ℕ} → r.last < r.first → ns ≡ zeros → ns ≡ ends_numbers e
-  none_told h es = rw (ee, lt-ltb r.last r.first h) es
-
-  pub ends_told : {ns : List ℕ} → r.first ≤ r.last → ns ≡ 1 ∷ r.first ∷ r.last ∷ 0 ∷ 0 ∷ 0 ∷ 0 ∷ 0 ∷ [] → ns ≡ ends_numbers e
-  ends_told h es = rw (ee, le-ltb r.last r.first h) es
+-- a reply that was made numbers
+module _ {A : Type 0} (code : Reply A → ℕ) (numbers : Reply A → List ℕ) (f : A → List ℕ) (accepted : (x : A) → 0 ≡ code (Ok x))
+    (given : (x : A) → f x ≡ numbers (Ok x)) (refused : (n : ℕ) → n ≡ code (Err n)) (none : (n : ℕ) → zeros ≡ numbers (Err n)) where
+  pub made : (r : Result A Refusal) (m : Result (List ℕ) Refusal) → MatchResult r (λ x. IsOkAnd m (λ ns. ns ≡ f x)) (λ e. m ≡ Err e)
+      → (number_of m ≡ code (numbered r)) × (result_unwrap_or m zeros ≡ numbers (numbered r))
+  made (Ok x) (Ok ns) h = (accepted x, h ∙ given x)
+  made (Ok x) (Err e) h = absurd h
+  made (Err e) m h = rw h (refused (refusal_number e), none (refusal_number e))

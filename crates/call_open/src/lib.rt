@@ -3,15 +3,37 @@
 
 ghost use Rattle.std.specs.Prelude.{◌≡◌};
 ghost use Rattle.rack.specs.definitions.Grow.{tree};
+ghost use Rattle.rack.specs.definitions.Refused.{number_of};
+ghost use Rattle.rack.specs.definitions.Table.{tree_of};
 ghost use Rattle.seat.specs.definitions.Grants.{acting, grants};
+ghost use Rattle.seat.specs.definitions.Table.{grants_of};
 ghost use Rattle.register_image.specs.definitions.Image.{images, result_of};
-ghost use Rattle.call_table.specs.definitions.Call.{refusal_by, read_in, store_refusal, stored_in, view_in, size_in, ends_in, run_in, check_in};
+ghost use Rattle.call_table.specs.definitions.Call.{numbered, refusal_by, read_in, store_refusal, stored_in, view_in, size_in, ends_in, run_in, check_in};
 
-use call_table::{Number, RangeReply, Reply};
+use event_run::Answer;
 use file_record::Event;
-use rack::Rack;
-use rack::table::table_of;
+use rack::refusal::Refusal;
+use rack::table::{Table, table_of};
+use rack::{Rack, Range};
+use register_image::{Registers, RegistersMut};
 use seat::grow::grants_of;
+use seat::table::GrantTable;
+
+// The tables that hold a rack and its grants.
+#[derive(Drop)]
+struct Tables {
+    table: Table,
+    grants: GrantTable,
+}
+
+fn tables_of(rack: Rack) -> Tables
+    ensures { (tree_of result.table ≡ tree rack) × (grants_of result.grants ≡ grants rack) }
+{
+    Tables {
+        table: table_of(rack),
+        grants: grants_of(rack),
+    }
+}
 
 // A dword of a node's registers.
 pub fn read_register<'a>(
@@ -20,15 +42,19 @@ pub fn read_register<'a>(
     devices: &'a [u8],
     node: u8,
     register: u8,
-) -> Number
-    ensures { result ≡ read_in (tree rack) (grants rack) (images bridges.now devices.now) node register }
+) -> Result<u64, Refusal>
+    ensures { numbered result ≡ read_in (tree rack) (grants rack) (images bridges.now devices.now) node register }
 {
-    let table = table_of(rack);
-    let grants = grants_of(rack);
-    call_node::read_on(&table, &grants, bridges, devices, node, register)
+    let t = tables_of(rack);
+    let registers = Registers {
+        table: &t.table,
+        bridges,
+        devices,
+    };
+    call_node::read_on(&registers, &t.grants, node, register)
 }
 
-// A register write of a node; the refusal's number, 0 where it is accepted.
+// A register write of a node.
 pub fn write_register(
     rack: Rack,
     bridges: &mut [u8],
@@ -37,23 +63,29 @@ pub fn write_register(
     register: u8,
     enables: u8,
     put: u32,
-) -> u8
-    ensures { (result ≡ refusal_by (tree rack) (grants rack) (images bridges.old devices.old) (store_refusal (tree rack) node register enables) 0) × (images bridges.new devices.new ≡ stored_in (tree rack) (grants rack) (images bridges.old devices.old) node register enables put) }
+) -> Result<(), Refusal>
+    ensures { (number_of result ≡ refusal_by (tree rack) (grants rack) (images bridges.old devices.old) (store_refusal (tree rack) node register enables) 0) × (images bridges.new devices.new ≡ stored_in (tree rack) (grants rack) (images bridges.old devices.old) node register enables put) }
 {
-    let table = table_of(rack);
-    let grants = grants_of(rack);
-    call_node::write_on(
-        &table, &grants, bridges, devices, node, register, enables, put,
-    )
+    let t = tables_of(rack);
+    let mut registers = RegistersMut {
+        table: &t.table,
+        bridges,
+        devices,
+    };
+    call_node::write_on(&mut registers, &t.grants, node, register, enables, put)
 }
 
 // The register view: the 64 bytes of a node; an empty part where the call is refused.
 pub fn view<'a>(rack: Rack, bridges: &'a [u8], devices: &'a [u8], node: u8) -> &'a [u8]
     ensures { result.now ≡ view_in (tree rack) (grants rack) (images bridges.now devices.now) node }
 {
-    let table = table_of(rack);
-    let grants = grants_of(rack);
-    call_node::view_on(&table, &grants, bridges, devices, node)
+    let t = tables_of(rack);
+    let registers = Registers {
+        table: &t.table,
+        bridges,
+        devices,
+    };
+    call_node::view_on(&registers, &t.grants, node)
 }
 
 // The size of a device's region, found by writing all ones; both images are then what they were.
@@ -63,12 +95,16 @@ pub fn size_region(
     devices: &mut [u8],
     node: u8,
     region: u8,
-) -> Number
-    ensures { (result ≡ size_in (tree rack) (grants rack) (images bridges.old devices.old) node region) × (images bridges.new devices.new ≡ images bridges.old devices.old) }
+) -> Result<u64, Refusal>
+    ensures { (numbered result ≡ size_in (tree rack) (grants rack) (images bridges.old devices.old) node region) × (images bridges.new devices.new ≡ images bridges.old devices.old) }
 {
-    let table = table_of(rack);
-    let grants = grants_of(rack);
-    call_node::size_on(&table, &grants, bridges, devices, node, region)
+    let t = tables_of(rack);
+    let mut registers = RegistersMut {
+        table: &t.table,
+        bridges,
+        devices,
+    };
+    call_node::size_on(&mut registers, &t.grants, node, region)
 }
 
 // Both ends of window k of a bridge (0 memory, 1 prefetchable, 2 I/O), or of region k of a device.
@@ -78,28 +114,46 @@ pub fn window_ends<'a>(
     devices: &'a [u8],
     node: u8,
     k: u8,
-) -> RangeReply
-    ensures { result ≡ ends_in (tree rack) (grants rack) (images bridges.now devices.now) node k }
+) -> Result<Range, Refusal>
+    ensures { numbered result ≡ ends_in (tree rack) (grants rack) (images bridges.now devices.now) node k }
 {
-    let table = table_of(rack);
-    let grants = grants_of(rack);
-    call_node::ends_on(&table, &grants, bridges, devices, node, k)
+    let t = tables_of(rack);
+    let registers = Registers {
+        table: &t.table,
+        bridges,
+        devices,
+    };
+    call_node::ends_on(&registers, &t.grants, node, k)
 }
 
 // An event of kinds 4 to 8 and 10, the check too, by the acting seat.
-pub fn run_event(rack: Rack, bridges: &mut [u8], devices: &mut [u8], seat: u8, e: Event) -> Reply
-    ensures { result_of result bridges.new devices.new ≡ run_in (tree rack) (acting (grants rack) seat) (images bridges.old devices.old) e }
+pub fn run_event(
+    rack: Rack,
+    bridges: &mut [u8],
+    devices: &mut [u8],
+    seat: u8,
+    e: Event,
+) -> Result<Answer, Refusal>
+    ensures { result_of (numbered result) bridges.new devices.new ≡ run_in (tree rack) (acting (grants rack) seat) (images bridges.old devices.old) e }
 {
-    let table = table_of(rack);
-    let grants = grants_of(rack);
-    call_table::runs::run_on(&table, &grants, bridges, devices, seat, e)
+    let t = tables_of(rack);
+    let mut registers = RegistersMut {
+        table: &t.table,
+        bridges,
+        devices,
+    };
+    call_table::runs::run_on(&mut registers, &t.grants, seat, e)
 }
 
 // The check of a rack, which changes no register.
-pub fn run_check<'a>(rack: Rack, bridges: &'a [u8], devices: &'a [u8]) -> Reply
-    ensures { result ≡ check_in (tree rack) (grants rack) (images bridges.now devices.now) }
+pub fn run_check<'a>(rack: Rack, bridges: &'a [u8], devices: &'a [u8]) -> Result<Answer, Refusal>
+    ensures { numbered result ≡ check_in (tree rack) (grants rack) (images bridges.now devices.now) }
 {
-    let table = table_of(rack);
-    let grants = grants_of(rack);
-    call_table::runs::check_on(&table, &grants, bridges, devices)
+    let t = tables_of(rack);
+    let registers = Registers {
+        table: &t.table,
+        bridges,
+        devices,
+    };
+    call_table::runs::check_on(&registers, &t.grants)
 }

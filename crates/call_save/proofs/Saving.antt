@@ -15,9 +15,8 @@ use Rattle.seat.specs.definitions.Grants.{Grants}
 use Rattle.register_image.specs.definitions.Image.{Images}
 use Rattle.file_save.specs.definitions.Saved.{saved_file}
 use Rattle.file_save.specs.laws.Length.{saved_most}
-use Rattle.call_table.specs.declared.Number.{Number}
-use Rattle.call_table.specs.declared.Number.TheVariants as number
-use Rattle.call_table.specs.definitions.Call.{refusal_by}
+use Rattle.std.specs.Prelude.{Ok, Err}
+use Rattle.call_table.specs.definitions.Call.{Reply, refusal_by}
 use Rattle.call_save.specs.definitions.Save.{save_refusal, save_in, buffer_in}
 
 -- the first bytes of a file, copied
@@ -38,10 +37,10 @@ module _ (t : Tree) (g : Grants) (im : Images) {r : ℕ} (e : r ≡ refusal_by t
     refused_as : (room : ℕ) → save_refusal t g im room ≡ r
     refused_as room = or_this _ _ (λ z. bad (e ∙ z)) ∙ sym e
 
-    pub refused_number : (room : ℕ) → number.Refused r ≡ save_in t g im room
+    pub refused_number : (room : ℕ) → Err r ≡ save_in t g im room
     unfolding save_in
     refused_number room =
-        sym (unless_number _ _ (λ z. bad (sym (refused_as room) ∙ z)) ∙ ap number.Refused (refused_as room))
+        sym (unless_number _ _ (λ z. bad (sym (refused_as room) ∙ z)) ∙ ap Err (refused_as room))
 
     pub refused_buffer : (old : List ℕ) → old ≡ buffer_in t g im old
     unfolding buffer_in
@@ -62,9 +61,9 @@ module _ (t : Tree) (g : Grants) (im : Images) {r : ℕ} (e : r ≡ refusal_by t
         is_11 : save_refusal t g im (length old) ≡ 11
         is_11 = then (length old) ∙ rw (lt-ltb (length old) (length (saved_file t g im)) (omega (arith, long)))
 
-        pub short_number : number.Refused 11 ≡ save_in t g im (length old)
+        pub short_number : Err 11 ≡ save_in t g im (length old)
         unfolding save_in
-        short_number = sym (unless_number _ _ (λ z. omega (arith, is_11, z)) ∙ ap number.Refused is_11)
+        short_number = sym (unless_number _ _ (λ z. omega (arith, is_11, z)) ∙ ap Err is_11)
 
         pub short_buffer : old ≡ buffer_in t g im old
         unfolding buffer_in
@@ -88,15 +87,15 @@ module _ (t : Tree) (g : Grants) (im : Images) {r : ℕ} (e : r ≡ refusal_by t
           saved_buffer c = c ∙ rw (file_is, long) (sym (unless_none _ _ none))
 
       module _ (old : List ℕ) (fits : n ≤ length old) where
-        pub saved_number : number.Value n ≡ save_in t g im (length old)
+        pub saved_number : Ok n ≡ save_in t g im (length old)
         unfolding save_in
         saved_number =
-            ap number.Value long
+            ap Ok long
             ∙ sym (unless_none _ _ (then (length old) ∙ rw (le-ltb (length old) (length (saved_file t g im)) (omega (arith, long)))))
 
 -- the call over a rack is that call over tables that hold it and its grants
 module _ (t : Tree) {u : Tree} (e : u ≡ t) (g : Grants) {h : Grants} (d : h ≡ g) (im : Images) where
-  pub save_over : (room : ℕ) {r : Number} → r ≡ save_in u h im room → r ≡ save_in t g im room
+  pub save_over : (room : ℕ) {r : Reply ℕ} → r ≡ save_in u h im room → r ≡ save_in t g im room
   save_over room = rw (e, d) (λ q. q)
 
   pub buffer_over : (old : List ℕ) {new : List ℕ} → new ≡ buffer_in u h im old → new ≡ buffer_in t g im old

@@ -1,53 +1,28 @@
--- The refusal of a call, number by number, and what an accepted run gives.
-use mathlib.Core.Path.{◌≡◌, sym, ap, ◌∙◌}
+-- The refusal of a call, and what an accepted run gives.
+use mathlib.Core.Path.{◌≡◌, sym}
 use mathlib.Core.Bool.{Bool, true, false, ◌||◌}
 use Prim.Native.Nat.{ℕ}
 use lib.Dec.{leb, ltb}
 use Rattle.rack.specs.definitions.Tree.{Tree}
 use Rattle.rack.specs.definitions.Refusal.{rack_refusal}
 use Rattle.rack.specs.definitions.First.{◌when◌, ◌or◌}
-use Rattle.rack.specs.laws.FirstLaws.{or_this, or_next, or_none}
+use Rattle.rack.specs.laws.FirstLaws.{or_none}
 use Rattle.seat.specs.definitions.Grants.{Grants}
-use Rattle.register_image.specs.definitions.Image.{Images, Result, gives}
-use Rattle.bus_reset.specs.definitions.Agreement.{image_refusal}
-use Rattle.event_run.specs.declared.Answer.{Answer}
-use Rattle.call_table.specs.declared.Reply.TheVariants as reply
-use Rattle.call_table.specs.definitions.Call.{refusal_by, ran}
+use Rattle.register_image.specs.definitions.Image.{Images}
+use Rattle.call_table.specs.definitions.Call.{refusal_by}
 
-module _ (t : Tree) (g : Grants) (im : Images) (field seat : ℕ) where
-  -- 6 to 10, then 11, 12 and 18, then 13, 14 and 15
-  pub rack_first : {r : ℕ} → r ≡ rack_refusal t → (r ≡ 0 → ⊥) → r ≡ refusal_by t g im field seat
-  unfolding refusal_by
-  rack_first e ne = e ∙ sym (or_this _ _ (λ z. ne (e ∙ z)))
+-- an accepted call has an accepted rack
+pub accepted_rack : (t : Tree) (g : Grants) (im : Images) (field seat : ℕ) → 0 ≡ refusal_by t g im field seat → rack_refusal t ≡ 0
+unfolding refusal_by
+accepted_rack t g im field seat e = (or_none (rack_refusal t) _ (sym e)).0
 
-  module _ {r : ℕ} (er : r ≡ rack_refusal t) (z : r ≡ 0) {s : ℕ} (es : s ≡ image_refusal t im) where
-    pub image_next : (s ≡ 0 → ⊥) → s ≡ refusal_by t g im field seat
-    unfolding refusal_by
-    image_next ne = es ∙ sym (or_next _ _ (sym er ∙ z) ∙ or_this _ _ (λ y. ne (es ∙ y)))
+-- 14 of the seat records, and what comes after it
+module _ {w c : Bool} (e : w ≡ c) (m : ℕ) where
+  pub wrong_grants : w ≡ true → 14 ≡ 14 when c or m
+  wrong_grants h = rw (← e, h)
 
-    module _ (y : s ≡ 0) where
-      later : refusal_by t g im field seat ≡ field or 14 when g.wrong or seat
-      unfolding refusal_by
-      later = or_next _ _ (sym er ∙ z) ∙ or_next _ _ (sym es ∙ y)
-
-      pub field_next : (field ≡ 0 → ⊥) → field ≡ refusal_by t g im field seat
-      field_next ne = sym (later ∙ or_this _ _ ne)
-
-      module _ (f : field ≡ 0) {w : Bool} (ew : w ≡ g.wrong) where
-        pub grants_next : w ≡ true → 14 ≡ refusal_by t g im field seat
-        grants_next h = sym (later ∙ or_next _ _ f ∙ rw (← ew, h))
-
-        pub seat_last : w ≡ false → seat ≡ refusal_by t g im field seat
-        seat_last h = sym (later ∙ or_next _ _ f ∙ rw (← ew, h))
-
-  -- an accepted call has an accepted rack
-  pub accepted_rack : {r : ℕ} → r ≡ refusal_by t g im field seat → r ≡ 0 → rack_refusal t ≡ 0
-  unfolding refusal_by
-  accepted_rack e z = (or_none (rack_refusal t) _ (sym e ∙ z)).0
-
-pub ran_of : {a : Answer} {v : Images} {q : Result Answer} → gives a v ≡ q
-    → gives (reply.Answered a) v ≡ ran q
-ran_of e = ap ran e
+  pub right_grants : w ≡ false → m ≡ 14 when c or m
+  right_grants h = rw (← e, h)
 
 -- 13 of a field: what the code has looked up is the tree's
 pub missing_or : (i : ℕ) (w : Bool) {c k n : ℕ} → c ≡ k → n ≡ 13 when (leb c i || w) → n ≡ 13 when (leb k i || w)

@@ -4,27 +4,3 @@
 
 pub mod refusal;
 pub mod runs;
-
-use event_run::Answer;
-use rack::Range;
-
-// The answer to an event, or the refusal's number.
-#[derive(Clone, Copy)]
-pub enum Reply {
-    Refused(u8),
-    Answered(Answer),
-}
-
-// A number that was asked for, or the refusal's number.
-#[derive(Clone, Copy)]
-pub enum Number {
-    Refused(u8),
-    Value(u64),
-}
-
-// Both ends of a window or region, or the refusal's number.
-#[derive(Clone, Copy)]
-pub enum RangeReply {
-    Refused(u8),
-    Range(Range),
-}

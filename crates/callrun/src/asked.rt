@@ -37,10 +37,8 @@ pub fn asked_in(head: &[u8]) -> Asked {
 // Its 96 nodes, each laid out as a device's record.
 fn nodes_in(bytes: &[u8]) -> [Node; 96] {
     let mut nodes = [node_in(bytes, 17); 96];
-    let mut i: usize = 0;
-    while i < 96 {
+    for i in 0..96 {
         nodes[i] = node_in(bytes, 17 + 13 * i);
-        i += 1;
     }
     nodes
 }
@@ -57,10 +55,8 @@ fn grant_in(bytes: &[u8], o: usize) -> Grant
 // The grants of seats 1 to 15, 96 for each, after the nodes.
 fn grants_in(bytes: &[u8]) -> [Grant; 1440] {
     let mut grants = [grant_in(bytes, 1265); 1440];
-    let mut k: usize = 0;
-    while k < 1440 {
+    for k in 0..1440 {
         grants[k] = grant_in(bytes, 1265 + 3 * k);
-        k += 1;
     }
     grants
 }

@@ -26,32 +26,23 @@ pub fn make(
     devices: &mut [u8],
     answer: &mut [u64; 8],
 ) -> u8 {
-    if a.operation == 1 {
-        return put_value(
+    match a.operation {
+        1 => put_value(
             answer,
             read_register(rack, bridges, devices, a.node, a.index),
-        );
-    }
-    if a.operation == 2 {
-        return write_register(rack, bridges, devices, a.node, a.index, a.enables, a.put);
-    }
-    if a.operation == 4 {
-        return put_value(answer, size_region(rack, bridges, devices, a.node, a.index));
-    }
-    if a.operation == 5 {
-        return put_ends(answer, window_ends(rack, bridges, devices, a.node, a.index));
-    }
-    if a.operation == 6 {
-        return put_reply(
+        ),
+        2 => match write_register(rack, bridges, devices, a.node, a.index, a.enables, a.put) {
+            Ok(()) => 0,
+            Err(refusal) => u8::from(refusal),
+        },
+        4 => put_value(answer, size_region(rack, bridges, devices, a.node, a.index)),
+        5 => put_ends(answer, window_ends(rack, bridges, devices, a.node, a.index)),
+        6 => put_reply(
             answer,
             run_event(rack, bridges, devices, a.node, event_in(event, 0)),
-        );
+        ),
+        7 => put_reply(answer, run_check(rack, bridges, devices)),
+        12 => step_made(a, answer),
+        _ => 0,
     }
-    if a.operation == 7 {
-        return put_reply(answer, run_check(rack, bridges, devices));
-    }
-    if a.operation == 12 {
-        return step_made(a, answer);
-    }
-    0
 }

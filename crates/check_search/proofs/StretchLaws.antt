@@ -1,5 +1,5 @@
 -- The search that goes on past a stretch in which no claim changes is the search of every value.
-use Rattle.std.specs.Prelude.{◌≡◌, refl, Bool, not, ◌&&◌, cond, List, [], ◌∷◌, ℕ, zero, suc, ◌+◌, ◌-◌, ◌≤◌, ◌<◌, eqb, get_or, length}
+use Rattle.std.specs.Prelude.{◌≡◌, refl, Bool, not, ◌&&◌, cond, List, [], ◌∷◌, Ok, Err, ℕ, zero, suc, ◌+◌, ◌-◌, ◌≤◌, ◌<◌, eqb, get_or, length}
 use Rattle.std.proofs.Common.{ap, ◌∙◌, arith, eq-eqb, eqb-true}
 use Rattle.std.proofs.lemmas.Bool.{eqb-false}
 use Rattle.rack.specs.laws.Bools.{tested}
@@ -16,8 +16,7 @@ use Rattle.claim_agent.specs.definitions.Space.{last_of}
 use Rattle.claim_agent.specs.definitions.Claim.{claims, claims_of, until_of}
 use Rattle.claim_agent.specs.definitions.Claimants.{claimants_in, claimants, first_two}
 use Rattle.claim_laws.specs.laws.Steady.{agent_kept}
-use Rattle.check_search.specs.declared.Report.{Report}
-use Rattle.check_search.specs.declared.Report.TheVariants.{Pass, Fault}
+use Rattle.check_search.specs.definitions.Report.{Report, Pass}
 use Rattle.check_search.specs.definitions.Check.{or_else, first_in, first_from, shown, driven_by, drivers_of, at_value, first_of, in_space, bus_report}
 use Rattle.check_search.specs.definitions.Gathered.{nobody, Gathered}
 use Rattle.check_search.specs.laws.Stretch.{until_all, claiming}
@@ -166,8 +165,8 @@ shown_moves bus space a x d (Two g k) e = let z : ◌≡◌ {A = ℕ} 0 1 = cc i
 
 -- nor of it and of what comes after
 else_moves : (r r' s s' : Report) → (r ≡ Pass → r' ≡ Pass) → (s ≡ Pass → s' ≡ Pass) → or_else r s ≡ Pass → or_else r' s' ≡ Pass
-else_moves Pass r' s s' p q e = rw (p refl) (q e)
-else_moves (Fault holder space value driver x y) r' s s' p q e = let z : ◌≡◌ {A = ℕ} 0 1 = cc in absurd (omega arith)
+else_moves (Ok _) r' s s' p q e = rw (p refl) (q e)
+else_moves (Err f) r' s s' p q e = let z : ◌≡◌ {A = ℕ} 0 1 = cc in absurd (omega arith)
 
 -- nor of all drivers
 in_moves : (f g : ℕ → Report) (l : List ℕ) → ((d : ℕ) → f d ≡ Pass → g d ≡ Pass) → first_in f l ≡ Pass → first_in g l ≡ Pass

@@ -2,7 +2,7 @@
 -- check finds.
 use Rattle.std.proofs.Math.Path.{◌≡◌, refl}
 use Rattle.std.proofs.Common.{◌∙◌, arith, leb-true, leb-false}
-use Rattle.std.specs.Prelude.{Bool, true, false, List, [], ◌∷◌, leb, get_or, length}
+use Rattle.std.specs.Prelude.{Bool, true, false, List, [], ◌∷◌, Ok, Err, leb, get_or, length}
 use Rattle.std.proofs.Math.Option.{Option, some, none}
 use Prim.Native.Nat.{ℕ, zero, suc, ◌+◌, ◌-◌, ◌≤◌, ◌<◌}
 use Rattle.rack.specs.definitions.Tree.{Tree, agents, buses}
@@ -12,8 +12,7 @@ use Rattle.claim_agent.specs.declared.Space.TheVariants.{Memory, Io, Configurati
 use Rattle.claim_agent.specs.declared.Agent.{Agent}
 use Rattle.claim_agent.specs.definitions.Space.{last_of}
 use Rattle.claim_agent.specs.definitions.Agent.{agent_of}
-use Rattle.check_search.specs.declared.Report.{Report}
-use Rattle.check_search.specs.declared.Report.TheVariants.{Pass, Fault}
+use Rattle.check_search.specs.definitions.Report.{Report, Pass}
 use Rattle.check_search.specs.definitions.Check.{or_else, first_in, first_from, at_value, first_of, in_space, bus_report, check}
 use Rattle.check_search.specs.definitions.Gathered.{nobody, Gathered}
 use Rattle.check_search.specs.laws.Stretch.{until_all}
@@ -46,9 +45,9 @@ stretch_end t im bus space a = until_all (gathered t im bus) space a (length (ag
 
 -- a fault, or a pass at the last stretch, or what comes after
 abbrev pub go_on : Report → Bool → Option Report → Option Report
-go_on (Fault holder space value driver x y) last o = some (Fault holder space value driver x y)
-go_on Pass true o = some Pass
-go_on Pass false o = o
+go_on (Err f) last o = some (Err f)
+go_on (Ok _) true o = some Pass
+go_on (Ok _) false o = o
 
 -- at most k stretches from a on; none where they are not enough
 unfoldable pub sweep_by : ℕ → Tree → Images → ℕ → Space → ℕ → Option Report
@@ -60,8 +59,8 @@ sweep_by (suc k) t im bus space a =
 -- a fault, or what comes after, as far as it is known
 abbrev pub or_else_by : Option Report → Option Report → Option Report
 or_else_by none o = none
-or_else_by (some Pass) o = o
-or_else_by (some (Fault holder space value driver x y)) o = some (Fault holder space value driver x y)
+or_else_by (some (Ok _)) o = o
+or_else_by (some (Err f)) o = some (Err f)
 
 -- the first fault of a list
 unfoldable pub first_by : {A : Type 0} → (A → Option Report) → List A → Option Report
@@ -82,13 +81,13 @@ module _ (t : Tree) (im : Images) (bus : ℕ) (space : Space) where
       → (stretch_end t im bus space a + 1 ≤ last_of space → o ≡ some r
       → first_from (at_value t im bus space) (last_of space + 1 - (stretch_end t im bus space a + 1)) (stretch_end t im bus space a + 1) ≡ r)
       → go_on f last o ≡ some r → first_from (at_value t im bus space) (last_of space + 1 - a) a ≡ r
-  swept_on a (Fault b s v d x y) r last o l w q g e = from_step (at_value t im bus space) (last_of space + 1) a (omega arith) ∙ rw w (cc)
-  swept_on a Pass r true o l w q g e =
+  swept_on a (Err f) r last o l w q g e = from_step (at_value t im bus space) (last_of space + 1) a (omega arith) ∙ rw w (cc)
+  swept_on a (Ok _) r true o l w q g e =
       leap t im bus (gathered t im bus) (gathered_is t im bus) (length (agents t bus)) refl space a (last_of space) l w
       ∙ from_end (at_value t im bus space) (last_of space + 1) (stretch_end t im bus space a + 1)
       (omega (arith, leb-true (last_of space) (stretch_end t im bus space a) q))
       ∙ cc
-  swept_on a Pass r false o l w q g e =
+  swept_on a (Ok _) r false o l w q g e =
       leap t im bus (gathered t im bus) (gathered_is t im bus) (length (agents t bus)) refl space a (last_of space) l w
       ∙ g (omega (arith, leb-false (last_of space) (stretch_end t im bus space a) q)) e
 
@@ -115,8 +114,8 @@ swept t im bus space k r e = swept_from t im bus space k (first_of space) r (fir
 else_by : (p q : Option Report) (x y r : Report) → ((s : Report) → p ≡ some s → x ≡ s) → ((s : Report) → q ≡ some s → y ≡ s)
     → or_else_by p q ≡ some r → or_else x y ≡ r
 else_by none q x y r hx hy e = let z : ◌≡◌ {A = ℕ} 0 1 = cc in absurd (omega arith)
-else_by (some Pass) q x y r hx hy e = rw (hx Pass refl) (hy r e)
-else_by (some (Fault b s v d g k)) q x y r hx hy e = rw (hx (Fault b s v d g k) refl) (cc)
+else_by (some (Ok _)) q x y r hx hy e = rw (hx Pass refl) (hy r e)
+else_by (some (Err f)) q x y r hx hy e = rw (hx (Err f) refl) (cc)
 
 -- a search of a list that finds what another finds at each member finds what it finds
 pub first_by_lem : {A : Type 0} (f : A → Report) (g : A → Option Report) → ((x : A) (r : Report) → g x ≡ some r → f x ≡ r)

@@ -5,16 +5,16 @@ pub mod drivers;
 
 use claim_agent::Space;
 
-// What a check says: it passes, or shows the first fault.
+// Two agents of a bus that claim what a third one drives.
 #[derive(Clone, Copy)]
-pub enum Report {
-    Pass,
-    Fault {
-        holder: u8,
-        space: Space,
-        value: u64,
-        driver: u8,
-        first: u8,
-        second: u8,
-    },
+pub struct Fault {
+    pub holder: u8,
+    pub space: Space,
+    pub value: u64,
+    pub driver: u8,
+    pub first: u8,
+    pub second: u8,
 }
+
+// What a check says: it passes, or shows the first fault.
+pub type Report = Result<(), Fault>;

@@ -67,26 +67,7 @@ module _ {g : ℕ → Agent} {all rest : List ℕ} {found : List Agent} {n : ℕ
   filled_all : rest ≡ [] → (j : ℕ) → j < length all → get_or found j nobody ≡ g (get_or all j 0)
   filled_all e j h = f.held j (omega (arith, f.left, ap length e))
 
--- the agents of a bus, counted node by node: `found` so far
-module _ (t : Tree) (bus : ℕ) where
-  abbrev pub Counted : ℕ → ℕ → ℕ → Type 0
-  Counted n found i = (found ≤ i + 1) × (found + length (nodes_from t bus i (n - i)) ≡ length (agents t bus))
-
-  pub counted_none : {n : ℕ} → n ≡ t.count → Counted n 1 0
-  counted_none at = (omega arith, omega (arith, ap length (all_left t bus at)))
-
-  module _ {n found i : ℕ} (so : Counted n found i) where
-    pub counted_all : n ≤ i → found ≡ length (agents t bus)
-    counted_all h = omega (arith, so.1, ap length (none_left t bus n i h))
-
-    module _ {p : ℕ} (h : i < n) (parent : p ≡ parent_of t i) where
-      pub counted_on : p ≡ bus → Counted n (found + 1) (i + 1)
-      counted_on e = (omega (arith, so.0), omega (arith, so.1, ap length (on_first t bus n i h parent e)))
-
-      pub counted_off : p ≢ bus → Counted n found (i + 1)
-      counted_off ne = (omega (arith, so.0), omega (arith, so.1, ap length (off_first t bus n i h parent ne)))
-
--- and gathered node by node
+-- the agents of a bus, gathered node by node
 module _ (t : Tree) (im : Images) (bus : ℕ) where
   abbrev pub GatheredTo : ℕ → List Agent → ℕ → ℕ → Type 0
   GatheredTo count found n i = Filled (agent_of t im bus) (agents t bus) (nodes_from t bus i (count - i)) found n

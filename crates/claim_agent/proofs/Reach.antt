@@ -1,66 +1,112 @@
--- The region that an address reaches, by which region is the first to hold it.
-use mathlib.Core.Path.{◌≡◌, sym, ◌∙◌}
-use mathlib.Core.Bool.{Bool, true, false, not, ◌&&◌, ◌||◌}
-use Prim.Native.Nat.{ℕ, ◌-◌, ◌≤◌}
+-- A device's three regions, one after the other, as the calls on their array see them.
+use Rattle.std.specs.Prelude.{◌≡◌, refl, Bool, true, false, not, ◌&&◌, ◌||◌, cond, ℕ, ◌-◌, ◌≤◌, ◌<◌, Option, Some, None, List, [], ◌∷◌, length, get_or}
+use Rattle.std.proofs.Common.{sym, ap, ◌∙◌, arith, ltb}
+use Rattle.std.specs.List.{fold, position_or_len, FoldsTo}
+use Rattle.std.specs.Fn.{Called}
+use Rattle.std.specs.Option.{MatchOption}
+use Rattle.std.specs.Iterator.{YieldsThen}
+use Rattle.std.specs.Slice.Iter.{iter_rest}
+use Rattle.std.proofs.Common.{Iter}
+use Rattle.std.proofs.lemmas.Iterator.{YieldsList-from_slice}
+use Rattle.std.proofs.lemmas.Iterator.Search.{position_from_yields_List}
+use Rattle.std.proofs.lemmas.Fn.{fronts}
+use denote.Param.Members.{Mut}
+use denote.Ref.{Bor}
+use borrow.Author.Tests.{leb-true, ltb-true, ltb-false}
 use lib.Dec.{leb}
-use borrow.Author.Tests.{leb-true}
-use Rattle.rack.specs.laws.Bools.{both}
+use Rattle.std.proofs.lemmas.Option.{same_Some}
+use Rattle.std.proofs.lemmas.List.{get_or_default}
+use Rattle.rack.specs.laws.Bools.{tested, both}
 use Rattle.claim_window.specs.declared.Area.{Area}
 use Rattle.claim_window.specs.definitions.Range.{within}
 use Rattle.claim_window.specs.definitions.Cut.{cut_range}
 use Rattle.claim_window.specs.definitions.Area.{holds}
 use Rattle.claim_agent.specs.declared.DeviceClaims.{DeviceClaims}
-use Rattle.claim_agent.specs.definitions.Claim.{regions_until, reached, offset_in}
+use Rattle.claim_agent.specs.definitions.Claim.{area_at, no_area, regions_until, reached, offset_in}
 
 -- an address that an area holds is not below its first
-pub first_le : (s : Area) (io : Bool) (a : ℕ) {b : Bool} → b ≡ holds s io a → b ≡ true → s.range.first ≤ a
+first_le : (s : Area) (io : Bool) (a : ℕ) → holds s io a ≡ true → s.range.first ≤ a
 unfolding holds
-first_le s io a eb q =
+first_le s io a q =
     leb-true s.range.first a
-    (both (leb s.range.first a) (leb a s.range.last)
-    (both (io && s.io || not io && not s.io) (within s.range a) (sym eb ∙ q)).1).0
+    (both (leb s.range.first a) (leb a s.range.last) (both (io && s.io || not io && not s.io) (within s.range a) q).1).0
 
-module _ (d : DeviceClaims) (io : Bool) (a : ℕ) {x : Bool} (ex : x ≡ holds d.first io a) where
-  module _ (p : x ≡ true) {n : ℕ} where
-    pub region_0 : n ≡ 0 → n ≡ reached d io a
+three : (l : List Area) → length l ≡ 3 → l ≡ get_or l 0 no_area ∷ get_or l 1 no_area ∷ get_or l 2 no_area ∷ []
+three [] h = absurd (omega arith)
+three (x ∷ []) h = absurd (omega arith)
+three (x ∷ y ∷ []) h = absurd (omega arith)
+three (x ∷ y ∷ z ∷ []) h = refl
+three (x ∷ y ∷ z ∷ w ∷ l) h = absurd (omega arith)
+
+module _ (d : DeviceClaims) (all : length d.areas ≡ 3) where
+  -- the ends are cut region after region
+  pub until_is : (a e : ℕ) → fold (λ (m : ℕ) (s : Area). cut_range s.range a m) e d.areas ≡ regions_until d a e
+  unfolding regions_until
+  until_is a e = ap (fold (λ (m : ℕ) (s : Area). cut_range s.range a m) e) (three d.areas all)
+
+  module _ (io : Bool) (a : ℕ) where
+    -- where the first region that holds an address stands is its number, 3 where none does
+    number_is : position_or_len (λ (s : Area). holds s io a) d.areas ≡ reached d io a
     unfolding reached
-    region_0 e = rw (← ex, p) e
+    number_is =
+        ap (position_or_len (λ (s : Area). holds s io a)) (three d.areas all)
+        ∙ tested (holds (area_at d 0) io a) (λ p. rw p)
+        (λ p. tested (holds (area_at d 1) io a) (λ q. rw (p, q)) (λ q. tested (holds (area_at d 2) io a) (λ s. rw (p, q, s)) (λ s. rw (p, q, s))))
 
-    pub offset_0 : n ≡ a - d.first.range.first → n ≡ offset_in d io a
-    unfolding offset_in
-    offset_0 e = rw (← ex, p) e
+    -- a number below 3 is that of a region that holds the address, at the offset from its first
+    reached_here : reached d io a < 3 → (holds (area_at d (reached d io a)) io a ≡ true) × (a - (area_at d (reached d io a)).range.first ≡ offset_in d io a)
+    unfolding reached offset_in
+    reached_here =
+        tested (holds (area_at d 0) io a) (λ p. rw p (λ h. (p, refl)))
+        (λ p.
+        tested (holds (area_at d 1) io a) (λ q. rw (p, q) (λ h. (q, refl)))
+        (λ q. tested (holds (area_at d 2) io a) (λ s. rw (p, q, s) (λ h. (s, refl))) (λ s. rw (p, q, s) (λ h. absurd (omega arith)))))
 
-  module _ (p : x ≡ false) {y : Bool} (ey : y ≡ holds d.second io a) where
-    module _ (q : y ≡ true) {n : ℕ} where
-      pub region_1 : n ≡ 1 → n ≡ reached d io a
-      unfolding reached
-      region_1 e = rw (← ex, p, ← ey, q) e
+    reached_past : 3 ≤ reached d io a → (3 ≡ reached d io a) × (0 ≡ offset_in d io a)
+    unfolding reached offset_in
+    reached_past =
+        tested (holds (area_at d 0) io a) (λ p. rw p (λ h. absurd (omega arith)))
+        (λ p.
+        tested (holds (area_at d 1) io a) (λ q. rw (p, q) (λ h. absurd (omega arith)))
+        (λ q. tested (holds (area_at d 2) io a) (λ s. rw (p, q, s) (λ h. absurd (omega arith))) (λ s. rw (p, q, s) (λ h. (refl, refl)))))
 
-      pub offset_1 : n ≡ a - d.second.range.first → n ≡ offset_in d io a
-      unfolding offset_in
-      offset_1 e = rw (← ex, p, ← ey, q) e
+    -- what `position` gives of the areas
+    abbrev pub found : Option ℕ
+    found =
+        cond (ltb (position_or_len (λ (s : Area). holds s io a) d.areas) (length d.areas))
+        (Some (position_or_len (λ (s : Area). holds s io a) d.areas)) None
 
-    module _ (q : y ≡ false) {z : Bool} (ez : z ≡ holds d.third io a) where
-      module _ (s : z ≡ true) {n : ℕ} where
-        pub region_2 : n ≡ 2 → n ≡ reached d io a
-        unfolding reached
-        region_2 e = rw (← ex, p, ← ey, q, ← ez, s) e
+    pub searched : {F : Type 0} {g : Mut F (Bor Area × Unit {0}) Bool} {s u : Iter Area} {f : F} {r : Option ℕ}
+        → (xs : List (Bor Area)) × (o : Option (Bor Area)) × (j : F) × YieldsThen fronts s xs o u × FoldsTo (λ p x q. Called g p (x, tt) false q) f xs j
+        × MatchOption o (r ≡ None) (λ x. (r ≡ Some (length xs)) × ((h : F) × Called g j (x, tt) true h))
+        → iter_rest s ≡ d.areas → ((x : Bor Area) (b : Bool) (q : F) → Called g f (x, tt) b q → (q ≡ f) × (b ≡ holds x.now io a)) → r ≡ found
+    searched {u = u} {f = f} {r = r} ran rest passes =
+        position_from_yields_List (λ (s : Area). holds s io a) u f r ran (YieldsList-from_slice d.areas rest) passes
 
-        pub offset_2 : n ≡ a - d.third.range.first → n ≡ offset_in d io a
-        unfolding offset_in
-        offset_2 e = rw (← ex, p, ← ey, q, ← ez, s) e
+    found_is : found ≡ cond (ltb (reached d io a) 3) (Some (reached d io a)) None
+    found_is = rw (number_is, all)
 
-      module _ (s : z ≡ false) where
-        pub region_none : 3 ≡ reached d io a
-        unfolding reached
-        region_none = rw (← ex, p, ← ey, q, ← ez, s)
+    pub none_reached : {o : Option ℕ} → o ≡ found → o ≡ None → (3 ≡ reached d io a) × (0 ≡ offset_in d io a)
+    none_reached {o} eo z =
+        tested (ltb (reached d io a) 3) (λ q. let e : o ≡ Some (reached d io a) = eo ∙ found_is ∙ rw q in absurd cc)
+        (λ q. reached_past (ltb-false (reached d io a) 3 q))
 
-        pub offset_none : 0 ≡ offset_in d io a
-        unfolding offset_in
-        offset_none = rw (← ex, p, ← ey, q, ← ez, s)
+    module _ {o : Option ℕ} {i : ℕ} (eo : o ≡ found) (z : o ≡ Some i) where
+      here : (i < 3) × (i ≡ reached d io a) × ((area_at d i).range.first ≤ a) × (a - (area_at d i).range.first ≡ offset_in d io a)
+      here =
+          tested (ltb (reached d io a) 3)
+          (λ q.
+          let e : i ≡ reached d io a = same_Some i (reached d io a) (sym z ∙ eo ∙ found_is ∙ rw q) in
+          let l : reached d io a < 3 = ltb-true (reached d io a) 3 q in
+          let h = reached_here l in
+          rw e (l, refl, first_le (area_at d (reached d io a)) io a h.0, h.1))
+          (λ q. let e : o ≡ None = eo ∙ found_is ∙ rw q in absurd cc)
 
--- the ends are cut region after region
-pub until_is : (d : DeviceClaims) (a e : ℕ) {x y z : ℕ} → x ≡ cut_range d.first.range a e → y ≡ cut_range d.second.range a x
-    → z ≡ cut_range d.third.range a y → z ≡ regions_until d a e
-unfolding regions_until
-until_is d a e ex ey ez = rw (← ex, ← ey) ez
+      read : (y : Area) → get_or d.areas i y ≡ area_at d i
+      read y = get_or_default d.areas i y no_area (omega (arith, all, here.0))
+
+      pub one_above : (y : Area) → (get_or d.areas i y).range.first ≤ a
+      one_above y = rw (read y) here.2
+
+      pub one_reached : (y : Area) → (i ≡ reached d io a) × (a - (get_or d.areas i y).range.first ≡ offset_in d io a)
+      one_reached y = rw (read y) (here.1, here.3)

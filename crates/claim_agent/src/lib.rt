@@ -7,7 +7,7 @@ use claim_window::{Area, Windows};
 use rack::Range;
 
 // Where an access is claimed: by address, or by bus number (Type 1 configuration).
-#[derive(Clone, Copy)]
+#[derive(Clone, Copy, PartialEq, Eq)]
 pub enum Space {
     Memory,
     Io,
@@ -29,9 +29,7 @@ pub struct BridgeClaims {
 pub struct DeviceClaims {
     pub io: bool,
     pub memory: bool,
-    pub first: Area,
-    pub second: Area,
-    pub third: Area,
+    pub areas: [Area; 3],
 }
 
 // An agent of a bus: a bridge on its primary or on its secondary bus, a device, or the host with its memory.
@@ -44,14 +42,14 @@ pub enum Agent {
 }
 
 // Whether an agent claims an address, and an end up to which that stays the same.
-#[derive(Clone, Copy)]
+#[derive(Clone, Copy, PartialEq, Eq)]
 pub struct Verdict {
     pub claims: bool,
     pub until: u64,
 }
 
-// The region of a device that an address reaches, 3 for none, and the offset in it.
-#[derive(Clone, Copy)]
+// The region of a device that an address reaches, and the offset in it.
+#[derive(Clone, Copy, PartialEq, Eq)]
 pub struct Reached {
     pub region: u8,
     pub offset: u64,
@@ -67,7 +65,7 @@ pub struct Transaction {
 }
 
 // The claimants of a transaction: none, one, or the first two.
-#[derive(Clone, Copy)]
+#[derive(Clone, Copy, PartialEq, Eq)]
 pub enum Claimants {
     Nobody,
     One(u8),

@@ -1,7 +1,7 @@
 -- An agent and a window, from what the code has read of them.
 use mathlib.Core.Path.{◌≡◌}
 use mathlib.Core.Bool.{Bool, true, false}
-use mathlib.Core.List.{List}
+use mathlib.Core.List.{List, [], ◌∷◌}
 use mathlib.Core.Logic.{◌≢◌}
 use Prim.Native.Nat.{ℕ, ◌<◌}
 use borrow.Author.Tests.{ne_eqb, lt-ltb}
@@ -42,9 +42,7 @@ module _ (part : List ℕ) {c : ℕ} (ec : c ≡ get_or part COMMAND 0) where
       → record {
         io = io;
         memory = memory;
-        first = x;
-        second = y;
-        third = z;
+        areas = x ∷ y ∷ z ∷ [];
       } ≡ device_of n part
   unfolding device_of
   device_is n ex ey ez ei em = rw (ei, em, ex, ey, ez, ec)

@@ -1,4 +1,5 @@
--- What the functions' proofs use.
+-- What the functions' proofs use, also those of crates above.
 mod Decoded
 mod Found
+pub mod Next
 mod OnBus

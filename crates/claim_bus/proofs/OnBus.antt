@@ -1,14 +1,14 @@
 -- Agents and nodes of a bus, after the code has looked them up.
-use mathlib.Core.Path.{◌≡◌, refl, sym, ap, ◌∙◌}
+use mathlib.Core.Path.{◌≡◌, ap, ◌∙◌}
 use mathlib.Core.Logic.{◌≢◌}
-use mathlib.Core.Bool.{Bool, true, false, ◌&&◌, and-true}
+use mathlib.Core.Bool.{Bool, true, false, and-true}
 use mathlib.Core.List.{List}
-use Prim.Native.Nat.{ℕ, ◌+◌, ◌-◌, ◌<◌, ◌≤◌}
+use Prim.Native.Nat.{ℕ}
 use borrow.Author.Tests.{eq-eqb, ne_eqb}
 use Rattle.rack.specs.declared.Node.{Node}
 use Rattle.rack.specs.declared.Range.{Range}
 use Rattle.rack.specs.definitions.Node.{is_bridge}
-use Rattle.rack.specs.definitions.Tree.{Tree, parent_of}
+use Rattle.rack.specs.definitions.Tree.{Tree}
 use Rattle.register_header.specs.definitions.Options.{options_of}
 use Rattle.register_image.specs.definitions.Image.{Images, view}
 use Rattle.claim_agent.specs.declared.Space.{Space}
@@ -18,8 +18,7 @@ use Rattle.claim_agent.specs.declared.Agent.{Agent}
 use Rattle.claim_agent.specs.declared.Agent.TheVariants.{Primary, Secondary, Device, Host}
 use Rattle.claim_agent.specs.definitions.Agent.{bridge_of, device_of, agent_of}
 use Rattle.claim_agent.specs.definitions.Claim.{host_claims, primary_claims, secondary_claims, device_claims, claims_of}
-use Rattle.claim_agent.specs.definitions.Claimants.{counted, counted_on_bus, next_from}
-use Rattle.claim_agent.specs.laws.ClaimantLaws.{NextYet, next_next, next_found, next_none}
+use Rattle.claim_agent.specs.definitions.Claimants.{counted}
 
 module _ (t : Tree) (im : Images) (bus g : ℕ) where
   pub agent_host : {h : Range} → g ≡ 255 → h ≡ t.host_memory → Host h ≡ agent_of t im bus g
@@ -68,24 +67,3 @@ module _ (t : Tree) (im : Images) (bus g : ℕ) (space : Space) (a : ℕ) {r : B
 pub counted_is : (t : Tree) (im : Images) (space : Space) (bus driver a g : ℕ) {r : Bool} → g ≢ driver
     → r ≡ claims_of (agent_of t im bus g) space a → r ≡ counted t im space bus driver a g
 counted_is t im space bus driver a g ne er = simp (ne_eqb g driver ne, and-true, er)
-
--- node i in a search for the next claimant
-module _ (t : Tree) (im : Images) (space : Space) (bus driver a from : ℕ) {n i : ℕ} (yet : NextYet (counted_on_bus t im space bus driver a) from n i) where
-  pub claimant_none : n ≡ t.count → n ≤ i → 255 ≡ next_from (counted_on_bus t im space bus driver a) from (t.count - from)
-  claimant_none = next_none (counted_on_bus t im space bus driver a) from yet
-
-  module _ {p : ℕ} (h : i < n) (parent : p ≡ parent_of t i) where
-    pub claimant_off : p ≢ bus → NextYet (counted_on_bus t im space bus driver a) from n (i + 1)
-    claimant_off ne =
-        next_next (counted_on_bus t im space bus driver a) from yet h
-        (ap (λ (b : Bool). b && counted t im space bus driver a i) (sym (ne_eqb (parent_of t i) bus (λ e. ne (parent ∙ e))))) refl
-
-    module _ {r : Bool} (e : p ≡ bus) (er : r ≡ counted t im space bus driver a i) where
-      on : r ≡ counted_on_bus t im space bus driver a i
-      on = er ∙ ap (λ (b : Bool). b && counted t im space bus driver a i) (sym (eq-eqb (parent_of t i) bus (sym parent ∙ e)))
-
-      pub claimant_not : r ≡ false → NextYet (counted_on_bus t im space bus driver a) from n (i + 1)
-      claimant_not q = next_next (counted_on_bus t im space bus driver a) from yet h on q
-
-      pub claimant_found : n ≡ t.count → r ≡ true → i ≡ next_from (counted_on_bus t im space bus driver a) from (t.count - from)
-      claimant_found at q = next_found (counted_on_bus t im space bus driver a) from yet at h on q

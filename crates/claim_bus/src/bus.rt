@@ -1,74 +1,50 @@
 // The claimants of a bus.
+ghost use Rattle.register_image.specs.definitions.Lent.{tree_in, images_in};
 ghost use Rattle.std.specs.Prelude.{◌≡◌, ◌-◌};
-ghost use Rattle.rack.specs.definitions.Table.{tree_of};
-ghost use Rattle.register_image.specs.definitions.Image.{images};
-ghost use Rattle.claim_agent.specs.definitions.Claimants.{counted, counted_on_bus, next_from, claimants, first_two};
+ghost use Rattle.rack.specs.definitions.Count.{find_from};
+ghost use Rattle.claim_agent.specs.definitions.Claimants.{counted, counted_on_bus, claimants, first_two};
 
 use crate::decode::agent_claims;
 use claim_agent::{Claimants, Transaction};
-use rack::table::{Table, count_of, parent_at};
+use rack::table::{count_of, parent_at};
+use register_image::Registers;
 
 // Whether agent g claims and does not drive.
-fn counts<'a>(table: &Table, bridges: &'a [u8], devices: &'a [u8], t: Transaction, g: u8) -> bool
-    ensures { result ≡ counted (tree_of table.now) (images bridges.now devices.now) t.space t.bus t.driver t.address g }
+fn counts(registers: &Registers, t: Transaction, g: u8) -> bool
+    ensures { result ≡ counted (tree_in registers.now) (images_in registers.now) t.space t.bus t.driver t.address g }
 {
     if g == t.driver {
         return false;
     }
-    let space = t.space;
-    agent_claims(table, bridges, devices, t.bus, g, space, t.address)
+    agent_claims(registers, t.bus, g, t.space, t.address)
 }
 
-// The first node on the bus, from number `from` on, that claims; 255 for none.
-fn next_claimant<'a>(
-    table: &Table,
-    bridges: &'a [u8],
-    devices: &'a [u8],
-    t: Transaction,
-    from: u8,
-) -> u8
-    ensures { result ≡ next_from (counted_on_bus (tree_of table.now) (images bridges.now devices.now) t.space t.bus t.driver t.address) from ((tree_of table.now).count - from) }
+// Whether node i is on the bus, claims and does not drive.
+fn counts_on_bus(registers: &Registers, t: Transaction, i: u8) -> bool
+    ensures { result ≡ counted_on_bus (tree_in registers.now) (images_in registers.now) t.space t.bus t.driver t.address i }
 {
-    let bus = t.bus;
-    let count = count_of(table);
-    let mut i = from;
-    while i < count {
-        if parent_at(table, i) == bus {
-            if counts(table, bridges, devices, t, i) {
-                return i;
-            }
-            i += 1;
-        } else {
-            i += 1;
-        }
-    }
-    255
+    parent_at(registers.table, i) == t.bus && counts(registers, t, i)
+}
+
+// The first node on the bus, from number `from` on, that does so.
+fn next_claimant(registers: &Registers, t: Transaction, from: u8) -> Option<u8>
+    ensures { result ≡ find_from (counted_on_bus (tree_in registers.now) (images_in registers.now) t.space t.bus t.driver t.address) from ((tree_in registers.now).count - from) }
+{
+    (from..count_of(registers.table)).find(|i| counts_on_bus(registers, t, *i))
 }
 
 // The claimants of a transaction, in agent order: the holder, then the nodes by number.
-pub fn claimants_of<'a>(
-    table: &Table,
-    bridges: &'a [u8],
-    devices: &'a [u8],
-    t: Transaction,
-) -> Claimants
-    ensures { result ≡ first_two (claimants (tree_of table.now) (images bridges.now devices.now) t.space t.bus t.driver t.address) }
+pub fn claimants_of(registers: &Registers, t: Transaction) -> Claimants
+    ensures { result ≡ first_two (claimants (tree_in registers.now) (images_in registers.now) t.space t.bus t.driver t.address) }
 {
-    let bus = t.bus;
-    let holder = counts(table, bridges, devices, t, bus);
-    let one = next_claimant(table, bridges, devices, t, 0);
-    if one == 255 {
-        if holder {
-            return Claimants::One(bus);
-        }
-        return Claimants::Nobody;
+    let holder = counts(registers, t, t.bus);
+    match next_claimant(registers, t, 0) {
+        None if holder => Claimants::One(t.bus),
+        None => Claimants::Nobody,
+        Some(one) if holder => Claimants::Two(t.bus, one),
+        Some(one) => match next_claimant(registers, t, one + 1) {
+            None => Claimants::One(one),
+            Some(two) => Claimants::Two(one, two),
+        },
     }
-    if holder {
-        return Claimants::Two(bus, one);
-    }
-    let two = next_claimant(table, bridges, devices, t, one + 1);
-    if two == 255 {
-        return Claimants::One(one);
-    }
-    Claimants::Two(one, two)
 }

@@ -14,26 +14,16 @@ use Rattle.register_header.specs.declared.Options.{Options}
 use Rattle.register_header.specs.definitions.PciRegs as regs
 use Rattle.register_header.specs.definitions.Register.{bit_at, read_register}
 use Rattle.register_header.specs.definitions.Sizing.{region_register}
-use Rattle.claim_window.specs.definitions.Range.{window}
-use Rattle.claim_window.specs.definitions.Window.{word_at, upper32, upper16, memory_of, prefetchable_of, io_of, windows_of}
+use Rattle.claim_window.specs.definitions.Range.{empty, window}
+use Rattle.claim_window.specs.definitions.Window.{word_at, prefetchable_granule, memory_of, prefetchable_of, io_of, windows_of}
 use Rattle.claim_window.specs.definitions.Area.{region_value, area_of}
 
--- a window between two granules
-pub window_is : (k base limit : ℕ) {x y : ℕ} {w : Range} → x ≡ base → y ≡ limit → w ≡ window k x y → w ≡ window k base limit
-window_is k base limit ex ey ew = rw (ew, ex, ey)
-
 module _ (part : List ℕ) where
-  pub memory_is : {b l : ℕ} {w : Range} → b ≡ word_at part regs.MEMORY_BASE → l ≡ word_at part regs.MEMORY_LIMIT
-      → w ≡ window 20 (b / 16) (l / 16) → w ≡ memory_of part
-  memory_is eb el ew = rw (ew, eb, el)
-
-  -- upper registers, where the bridge has them
-  pub upper_32_is : (on : Bool) (at : ℕ) {r : ℕ} → on ≡ true → at < 64 → r ≡ read_register part at → r ≡ upper32 on part at
+  -- the upper register counts, where the bridge has it
+  pub prefetchable_is : (on : Bool) (at upper : ℕ) {r w : ℕ} → on ≡ true → upper < 64 → r ≡ read_register part upper → w ≡ word_at part at
+      → r * 4096 + w / 16 ≡ prefetchable_granule on part at upper
   unfolding read_register
-  upper_32_is on at q h e = rw (q, e, lt-ltb at 64 h)
-
-  pub upper_16_is : (on : Bool) (at : ℕ) {r : ℕ} → on ≡ true → r ≡ word_at part at → r ≡ upper16 on part at
-  upper_16_is on at q e = rw (q, e)
+  prefetchable_is on at upper q h er ew = rw (q, er, ew, lt-ltb upper 64 h)
 
   pub windows_is : (o : Options) {c : ℕ} {m p i : Range} {isa vga wide : Bool} → c ≡ get_or part regs.BRIDGE_CONTROL 0 → m ≡ memory_of part
       → p ≡ prefetchable_of o.prefetchable64 part → i ≡ io_of o.io32 part → isa ≡ bit_at c regs.BRIDGE_CTL_ISA → vga ≡ bit_at c regs.BRIDGE_CTL_VGA
@@ -64,6 +54,10 @@ module _ (part : List ℕ) where
       → g ≡ window e (v / 2 ^ e) (v / 2 ^ e) → record { io = eqb kind 1; range = g } ≡ area_of part kind e r
   unfolding area_of
   area_is kind e r q ev eg = rw (q, eg, ev)
+
+  pub area_none : (kind e r : ℕ) {g : Range} → (eqb kind 0 || ltb 31 e) ≡ true → g ≡ empty → record { io = eqb kind 1; range = g } ≡ area_of part kind e r
+  unfolding area_of
+  area_none kind e r q eg = rw (q, eg)
 
 -- what has an area has at most 2 to the 31 addresses
 pub exponent_below : (kind e : ℕ) → (eqb kind 0 || ltb 31 e) ≡ false → e < 32

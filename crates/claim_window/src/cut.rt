@@ -15,24 +15,14 @@ pub fn within_range(r: Range, a: u64) -> bool
 fn cut_at(at: u64, a: u64, e: u64) -> u64
     ensures { result ≡ cut_at at a e }
 {
-    if a < at {
-        if at <= e {
-            return at - 1;
-        }
-    }
-    e
+    if a < at { e.min(at - 1) } else { e }
 }
 
 // Of x <= last.
 fn cut_past(last: u64, a: u64, e: u64) -> u64
     ensures { result ≡ cut_past last a e }
 {
-    if a <= last {
-        if last < e {
-            return last;
-        }
-    }
-    e
+    if a <= last { e.min(last) } else { e }
 }
 
 // Of a range.

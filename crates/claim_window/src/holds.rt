@@ -9,7 +9,6 @@ impl Area {
     pub fn holds_address(self, io: bool, a: u64) -> bool
         ensures { result ≡ holds self io a }
     {
-        let r = self.range;
-        ((io & self.io) | (!io & !self.io)) & within_range(r, a)
+        (io == self.io) & within_range(self.range, a)
     }
 }

@@ -6,19 +6,22 @@ use crate::Windows;
 use crate::cut::{cut_low, cut_range, low_part, within_range};
 use rack::Range;
 
+const VGA_MEMORY: Range = Range {
+    first: 0xA0000,
+    last: 0xBFFFF,
+};
+
 impl Windows {
     pub fn in_memory(self, a: u64) -> bool
         ensures { result ≡ in_memory self a }
     {
-        let r = self.memory;
-        within_range(r, a)
+        within_range(self.memory, a)
     }
 
     pub fn in_prefetchable(self, a: u64) -> bool
         ensures { result ≡ in_prefetchable self a }
     {
-        let r = self.prefetchable;
-        within_range(r, a)
+        within_range(self.prefetchable, a)
     }
 
     // An ISA hole: below 64 KiB, bits 9 to 8 not 00.
@@ -26,20 +29,19 @@ impl Windows {
         ensures { result ≡ isa_cut self a }
     {
         let low = low_part(a);
-        self.isa & ((a < 0x10000) & !(low / 256 % 4 == 0))
+        self.isa & ((a < 0x10000) & (low / 256 % 4 != 0))
     }
 
     pub fn in_io(self, a: u64) -> bool
         ensures { result ≡ in_io self a }
     {
-        let r = self.io;
-        within_range(r, a) & !self.isa_cut(a)
+        within_range(self.io, a) & !self.isa_cut(a)
     }
 
     pub fn in_vga_memory(self, a: u64) -> bool
         ensures { result ≡ in_vga_memory self a }
     {
-        self.vga & ((0xA0000 <= a) & (a <= 0xBFFFF))
+        self.vga & within_range(VGA_MEMORY, a)
     }
 
     pub fn in_vga_io(self, a: u64) -> bool
@@ -68,21 +70,14 @@ impl Windows {
     pub fn memory_until(self, a: u64, e: u64) -> u64
         ensures { result ≡ memory_until self a e }
     {
-        let memory = self.memory;
-        let prefetchable = self.prefetchable;
-        let vga = Range {
-            first: 0xA0000,
-            last: 0xBFFFF,
-        };
-        let e1 = cut_range(memory, a, e);
-        let e2 = cut_range(prefetchable, a, e1);
-        cut_range(vga, a, e2)
+        let e = cut_range(self.memory, a, e);
+        let e = cut_range(self.prefetchable, a, e);
+        cut_range(VGA_MEMORY, a, e)
     }
 
     pub fn io_until(self, a: u64, e: u64) -> u64
         ensures { result ≡ io_until self a e }
     {
-        let io = self.io;
-        cut_low(self.isa, self.vga, a, cut_range(io, a, e))
+        cut_low(self.isa, self.vga, a, cut_range(self.io, a, e))
     }
 }

@@ -12,7 +12,7 @@ use Rattle.route_bus.specs.declared.Access.{Access}
 use Rattle.route_bus.specs.declared.End.{End}
 use Rattle.route_bus.specs.declared.End.TheVariants as end
 use Rattle.route_bus.specs.declared.Route.{Route}
-use Rattle.check_search.specs.declared.Report.{Report}
+use Rattle.check_search.specs.definitions.Report.{Report}
 use Rattle.check_search.specs.definitions.Check.{check}
 use Rattle.file_record.specs.declared.Event.{Event}
 use Rattle.file_record.specs.declared.Event.TheVariants.{Write, Read, Memory, Io, Check, Seat}

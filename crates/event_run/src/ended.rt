@@ -1,43 +1,39 @@
 // What an access comes to once its route is known: the register that it reached is read or written here.
+ghost use Rattle.register_image.specs.definitions.Lent.{tree_in, images_in};
+ghost use Rattle.register_image.specs.definitions.LentMut.{tree_at, images_at, Same};
+ghost use Rattle.register_image.specs.definitions.Image.{gives};
 ghost use Rattle.std.specs.Prelude.{◌≡◌};
-ghost use Rattle.rack.specs.definitions.Table.{tree_of};
 ghost use Rattle.seat.specs.definitions.Grants.{acting};
 ghost use Rattle.seat.specs.definitions.Table.{grants_of};
 ghost use Rattle.register_header.specs.definitions.Register.{read_register};
-ghost use Rattle.register_image.specs.definitions.Image.{images, result_of, view};
+ghost use Rattle.register_image.specs.definitions.Image.{view};
 ghost use Rattle.event_run.specs.definitions.Run.{register_of, reached, ended_at};
 
 use crate::{Answer, Ending};
-use rack::table::Table;
+use register_image::{Registers, RegistersMut};
 use route_bus::{Access, End};
 use seat::table::GrantTable;
 
-fn read_of<'a>(table: &Table, bridges: &'a [u8], devices: &'a [u8], g: u8, register: u8) -> u32
-    ensures { result ≡ read_register (view (tree_of table.now) (images bridges.now devices.now) g) register }
+fn read_of(registers: &Registers, g: u8, register: u8) -> u32
+    ensures { result ≡ read_register (view (tree_in registers.now) (images_in registers.now) g) register }
 {
-    let part = register_image::image::view(table, bridges, devices, g);
+    let part = registers.view(g);
     register_header::register::read_register(part, register)
 }
 
 // A register of node g read or written.
-fn register_of(
-    table: &Table,
-    bridges: &mut [u8],
-    devices: &mut [u8],
-    x: Access,
-    crossings: u32,
-    g: u8,
-) -> Answer
-    ensures { result_of result bridges.new devices.new ≡ register_of (tree_of table.now) (images bridges.old devices.old) x crossings g }
+fn register_of(registers: &mut RegistersMut, x: Access, crossings: u32, g: u8) -> Answer
+    ensures leaves { gives result (images_at registers.new) ≡ register_of (tree_at registers.old) (images_at registers.old) x crossings g }
+    ensures same { Same registers.old registers.new }
 {
     if x.write {
-        bus_reset::store::store_node(table, bridges, devices, g, x.register, x.enables, x.data);
+        bus_reset::store::store_node(registers, g, x.register, x.enables, x.data);
         return Answer::Ended {
             crossings,
             ending: Ending::Stored,
         };
     }
-    let value = read_of(table, bridges, devices, g, x.register);
+    let value = read_of(&registers.lent(), g, x.register);
     Answer::Ended {
         crossings,
         ending: Ending::Data { value },
@@ -46,16 +42,15 @@ fn register_of(
 
 // Node g is reached: a write outside the grant of the acting seat is denied.
 fn reached(
-    table: &Table,
+    registers: &mut RegistersMut,
     grants: &GrantTable,
-    bridges: &mut [u8],
-    devices: &mut [u8],
     seat: u8,
     x: Access,
     crossings: u32,
     g: u8,
 ) -> Answer
-    ensures { result_of result bridges.new devices.new ≡ reached (tree_of table.now) (acting (grants_of grants.now) seat) (images bridges.old devices.old) x crossings g }
+    ensures leaves { gives result (images_at registers.new) ≡ reached (tree_at registers.old) (acting (grants_of grants.now) seat) (images_at registers.old) x crossings g }
+    ensures same { Same registers.old registers.new }
 {
     let may = seat::table::may_write(grants, seat, g, x.register);
     if x.write & !may {
@@ -64,24 +59,23 @@ fn reached(
             ending: Ending::Denied,
         };
     }
-    register_of(table, bridges, devices, x, crossings, g)
+    register_of(registers, x, crossings, g)
 }
 
 // The answer to an access whose route ended there.
 pub(crate) fn ended_at(
-    table: &Table,
+    registers: &mut RegistersMut,
     grants: &GrantTable,
-    bridges: &mut [u8],
-    devices: &mut [u8],
     seat: u8,
     x: Access,
     crossings: u32,
     end: End,
 ) -> Answer
-    ensures { result_of result bridges.new devices.new ≡ ended_at (tree_of table.now) (acting (grants_of grants.now) seat) (images bridges.old devices.old) x crossings end }
+    ensures leaves { gives result (images_at registers.new) ≡ ended_at (tree_at registers.old) (acting (grants_of grants.now) seat) (images_at registers.old) x crossings end }
+    ensures same { Same registers.old registers.new }
 {
     let ending = match end {
-        End::Node(g) => return reached(table, grants, bridges, devices, seat, x, crossings, g),
+        End::Node(g) => return reached(registers, grants, seat, x, crossings, g),
         End::Owner {
             node,
             region,

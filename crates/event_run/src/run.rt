@@ -1,17 +1,17 @@
 // The run of an event over the table of an accepted rack.
+ghost use Rattle.register_image.specs.definitions.LentMut.{tree_at, images_at, Same};
+ghost use Rattle.register_image.specs.definitions.Image.{gives};
 ghost use Rattle.std.specs.Prelude.{◌≡◌};
-ghost use Rattle.rack.specs.definitions.Table.{tree_of};
 ghost use Rattle.rack.specs.definitions.Refusal.{rack_refusal};
 ghost use Rattle.seat.specs.definitions.Grants.{acting};
 ghost use Rattle.seat.specs.definitions.Table.{grants_of};
-ghost use Rattle.register_image.specs.definitions.Image.{images, result_of};
 ghost use Rattle.event_run.specs.definitions.Run.{configuration, addressed, configured, accessed, event_run};
 
 use crate::Answer;
 use crate::ended::ended_at;
 use claim_agent::Space;
 use file_record::Event;
-use rack::table::Table;
+use register_image::RegistersMut;
 use route::route::{route_access, route_configuration};
 use route_bus::Access;
 use seat::table::GrantTable;
@@ -46,49 +46,36 @@ fn addressed_at(space: Space, direction: u8, address: u64) -> Access
 }
 
 // A configuration access is routed and served.
-fn configured_by(
-    table: &Table,
-    grants: &GrantTable,
-    bridges: &mut [u8],
-    devices: &mut [u8],
-    seat: u8,
-    x: Access,
-) -> Answer
-    ensures { result_of result bridges.new devices.new ≡ configured (tree_of table.now) (acting (grants_of grants.now) seat) (images bridges.old devices.old) x }
+fn configured_by(registers: &mut RegistersMut, grants: &GrantTable, seat: u8, x: Access) -> Answer
+    ensures leaves { gives result (images_at registers.new) ≡ configured (tree_at registers.old) (acting (grants_of grants.now) seat) (images_at registers.old) x }
+    ensures same { Same registers.old registers.new }
 {
-    let r = route_configuration(table, bridges, devices, x);
+    let r = route_configuration(registers, x);
     let end = r.end;
-    ended_at(table, grants, bridges, devices, seat, x, r.crossings, end)
+    ended_at(registers, grants, seat, x, r.crossings, end)
 }
 
 // A memory or I/O access is routed from its initiator.
 fn accessed_by(
-    table: &Table,
+    registers: &mut RegistersMut,
     grants: &GrantTable,
-    bridges: &mut [u8],
-    devices: &mut [u8],
     seat: u8,
     x: Access,
     initiator: u8,
 ) -> Answer
-    ensures { result_of result bridges.new devices.new ≡ accessed (tree_of table.now) (acting (grants_of grants.now) seat) (images bridges.old devices.old) x initiator }
+    ensures leaves { gives result (images_at registers.new) ≡ accessed (tree_at registers.old) (acting (grants_of grants.now) seat) (images_at registers.old) x initiator }
+    ensures same { Same registers.old registers.new }
 {
-    let r = route_access(table, bridges, devices, x, initiator);
+    let r = route_access(registers, x, initiator);
     let end = r.end;
-    ended_at(table, grants, bridges, devices, seat, x, r.crossings, end)
+    ended_at(registers, grants, seat, x, r.crossings, end)
 }
 
 // The answer to an event of the acting seat, and what it leaves in both images.
-pub fn answer_event(
-    table: &Table,
-    grants: &GrantTable,
-    bridges: &mut [u8],
-    devices: &mut [u8],
-    seat: u8,
-    e: Event,
-) -> Answer
-    requires { rack_refusal (tree_of table.now) ≡ 0 }
-    ensures { result_of result bridges.new devices.new ≡ event_run (tree_of table.now) (acting (grants_of grants.now) seat) (images bridges.old devices.old) e }
+pub fn answer_event(registers: &mut RegistersMut, grants: &GrantTable, seat: u8, e: Event) -> Answer
+    requires { rack_refusal (tree_at registers.old) ≡ 0 }
+    ensures leaves { gives result (images_at registers.new) ≡ event_run (tree_at registers.old) (acting (grants_of grants.now) seat) (images_at registers.old) e }
+    ensures same { Same registers.old registers.new }
 {
     match e {
         Event::Write {
@@ -99,7 +86,7 @@ pub fn answer_event(
             put,
         } => {
             let x = configuration_of(true, bus, devfn, register, enables, put);
-            configured_by(table, grants, bridges, devices, seat, x)
+            configured_by(registers, grants, seat, x)
         }
         Event::Read {
             bus,
@@ -107,7 +94,7 @@ pub fn answer_event(
             register,
         } => {
             let x = configuration_of(false, bus, devfn, register, 0, 0);
-            configured_by(table, grants, bridges, devices, seat, x)
+            configured_by(registers, grants, seat, x)
         }
         Event::Memory {
             initiator,
@@ -115,7 +102,7 @@ pub fn answer_event(
             address,
         } => {
             let x = addressed_at(Space::Memory, direction, address);
-            accessed_by(table, grants, bridges, devices, seat, x, initiator)
+            accessed_by(registers, grants, seat, x, initiator)
         }
         Event::Io {
             initiator,
@@ -123,9 +110,9 @@ pub fn answer_event(
             address,
         } => {
             let x = addressed_at(Space::Io, direction, address as u64);
-            accessed_by(table, grants, bridges, devices, seat, x, initiator)
+            accessed_by(registers, grants, seat, x, initiator)
         }
-        Event::Check => Answer::Checked(check_sweep::buses::check_rack(table, bridges, devices)),
+        Event::Check => Answer::Checked(check_sweep::buses::check_rack(&registers.lent())),
         Event::Seat { seat: next } => Answer::Seated(next),
     }
 }

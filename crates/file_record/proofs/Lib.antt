@@ -1,2 +1,3 @@
 -- What the functions' proofs use.
+pub mod Classes
 mod Records

@@ -1,6 +1,7 @@
 // Rack files: records from bytes, and events one at a time. `file_load` walks a file up to its first faulty record.
 #![tactic(auto)]
 
+use rack::refusal::Refusal;
 use rack::table::Table;
 use seat::table::GrantTable;
 
@@ -40,7 +41,7 @@ pub enum Event {
 }
 
 // What the records of a kind are. Unknown comes first: the library reads an element past an array's end as the first variant.
-#[derive(Clone, Copy)]
+#[derive(Clone, Copy, PartialEq, Eq)]
 pub enum Class {
     Unknown,
     Host,
@@ -51,24 +52,29 @@ pub enum Class {
 }
 
 // What is known in front of a record, beside the tables of the rack and of its grants: the record's offset, where the register records
-// and where the events begin (0 before the first), and the least node that a register record may name. Or the refusal of the record before
-// it, which is not 0.
-#[derive(Clone, Copy)]
+// and where the events begin (0 before the first, as the definitions and the answer of `rack_open` have it, so no `Option`), and the least
+// node that a register record may name.
+#[derive(Clone, Copy, Default)]
 pub struct Walk {
-    pub refusal: u8,
     pub offset: usize,
     pub registers: usize,
     pub events: usize,
     pub least: usize,
 }
 
-// What was read: a refusal and its offset; or 0, the offset at which the events begin, that at which the register records begin, or else
-// the events, the table of the rack and that of its grants.
+// What was read: the offset at which the events begin, that at which the register records begin, or else the events, the table of the rack
+// and that of its grants.
 #[derive(Clone, Copy)]
 pub struct Loaded {
-    pub refusal: u8,
     pub offset: usize,
     pub registers: usize,
     pub table: Table,
     pub grants: GrantTable,
+}
+
+// Why a file is refused, and the offset of the record that it is refused for.
+#[derive(Clone, Copy)]
+pub struct Refused {
+    pub refusal: Refusal,
+    pub offset: usize,
 }

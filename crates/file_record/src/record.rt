@@ -1,10 +1,10 @@
 // The forms of records; the host's memory and a node from their records.
 ghost use Rattle.std.specs.Prelude.{◌≡◌, not, ◌+◌, ◌≤◌, ◌<◌, length};
-ghost use Rattle.file_record.specs.definitions.Record.{form_of, size_of, class_in, class_number, is_a, is_rack, is_known, cut_short, host_in, region_from, node_in, seat_in, registers_in};
+ghost use Rattle.file_record.specs.definitions.Record.{form_of, size_of, class_in, is_rack, is_known, cut_short, host_in, region_from, node_in, seat_in, registers_in};
 
 use crate::Class;
 use crate::number::{qword_in, word_in};
-use rack::{Node, Range, Region};
+use rack::{Kind, Node, Range, Region};
 use register_header::register::byte_at;
 use seat::SeatRecord;
 
@@ -31,11 +31,10 @@ const BODIES: [u8; 14] = [0, 16, 6, 12, 8, 3, 10, 6, 0, 4, 1, 65, 0, 6];
 fn class_of(kind: u8) -> Class
     ensures { result ≡ (form_of kind).class }
 {
-    let at = kind as usize;
-    if at < 14 {
-        return CLASSES[at];
-    }
-    Class::Unknown
+    CLASSES
+        .get(kind as usize)
+        .copied()
+        .unwrap_or(Class::Unknown)
 }
 
 pub fn class_in(file: &[u8], o: usize) -> Class
@@ -48,38 +47,14 @@ pub fn class_in(file: &[u8], o: usize) -> Class
 pub fn size_of(kind: u8) -> usize
     ensures { (result ≡ size_of kind) × (1 ≤ result) × (result ≤ 66) }
 {
-    let at = kind as usize;
-    if at < 14 {
-        return BODIES[at] as usize + 1;
-    }
-    1
-}
-
-fn class_number(c: Class) -> u8
-    ensures { result ≡ class_number c }
-{
-    match c {
-        Class::Unknown => 0,
-        Class::Host => 1,
-        Class::Node => 2,
-        Class::Seat => 3,
-        Class::Registers => 4,
-        Class::Event => 5,
-    }
-}
-
-pub fn is_a(k: Class, c: Class) -> bool
-    ensures { result ≡ is_a k c }
-{
-    class_number(k) == class_number(c)
+    let body = BODIES.get(kind as usize).copied().unwrap_or(0);
+    body as usize + 1
 }
 
 pub fn is_rack(c: Class) -> bool
     ensures { result ≡ is_rack c }
 {
-    let host = is_a(Class::Host, c);
-    let node = is_a(Class::Node, c);
-    host | node | is_a(Class::Seat, c)
+    matches!(c, Class::Host | Class::Node | Class::Seat)
 }
 
 // Refusal 2: the kind is none that may be read; `whole` says whether register records and events are.
@@ -87,8 +62,8 @@ pub fn no_kind(whole: bool, c: Class) -> bool
     ensures { result ≡ not (is_known whole c) }
 {
     let rack = is_rack(c);
-    let registers = is_a(Class::Registers, c);
-    let event = is_a(Class::Event, c);
+    let registers = c == Class::Registers;
+    let event = c == Class::Event;
     !(rack | (whole & (registers | event)))
 }
 
@@ -125,35 +100,27 @@ pub fn node_in(file: &[u8], o: usize) -> Node
     requires { o ≤ 65536 }
     ensures { result ≡ node_in file.now o }
 {
-    let parent = byte_at(file, o + 1);
-    let device = byte_at(file, o + 2);
-    let vendor_id = word_in(file, o + 3);
-    let device_id = word_in(file, o + 5);
-    let kind = rack::kind_from(byte_at(file, o));
-    if rack::is_bridge(kind) {
-        let none = Region {
-            kind: 0,
-            exponent: 0,
-        };
-        return Node {
-            kind,
-            parent,
-            device,
-            vendor_id,
-            device_id,
-            regions: [none, none, none],
-        };
-    }
-    let r = region_from(file, o + 7);
-    let s = region_from(file, o + 9);
-    let t = region_from(file, o + 11);
+    let kind = Kind::from(byte_at(file, o));
+    let none = Region {
+        kind: 0,
+        exponent: 0,
+    };
+    let regions = if kind.is_bridge() {
+        [none; 3]
+    } else {
+        [
+            region_from(file, o + 7),
+            region_from(file, o + 9),
+            region_from(file, o + 11),
+        ]
+    };
     Node {
         kind,
-        parent,
-        device,
-        vendor_id,
-        device_id,
-        regions: [r, s, t],
+        parent: byte_at(file, o + 1),
+        device: byte_at(file, o + 2),
+        vendor_id: word_in(file, o + 3),
+        device_id: word_in(file, o + 5),
+        regions,
     }
 }
 

@@ -4,11 +4,14 @@
 ghost use Rattle.std.specs.Prelude.{◌≡◌, ◌+◌, ◌≤◌, length};
 ghost use Rattle.rack.specs.definitions.Table.{tree_of};
 ghost use Rattle.rack.specs.definitions.First.{◌or◌};
+ghost use Rattle.rack.specs.definitions.Refused.{number_of};
 ghost use Rattle.file_record.specs.definitions.Number.{byte_in};
 ghost use Rattle.file_record.specs.definitions.Record.{registers_in};
 ghost use Rattle.file_record.specs.definitions.Load.{misplaced, unsound, resets_at, record_resets, record_held, register_fault};
 
+use bus_reset::held::any_above;
 use file_record::record::registers_in;
+use rack::refusal::Refusal;
 use rack::table::{Table, count_of, node_at, parent_at};
 use register_header::pci_regs::{BRIDGE_CONTROL, BRIDGE_CTL_BUS_RESET};
 use register_header::register::{bit_at, byte_at};
@@ -60,14 +63,7 @@ fn record_resets(file: &[u8], end: usize, start: usize, g: u8) -> bool
     requires { (start ≤ end) × (end ≤ 65536) × (end ≤ length file.now) }
     ensures { result ≡ record_resets (length file.now) file.now end start g }
 {
-    let mut o = start;
-    while o + 66 <= end {
-        if resets_at(file, o, g) {
-            return true;
-        }
-        o += 66;
-    }
-    false
+    (0..(end - start) / 66).any(|i| resets_at(file, start + 66 * i, g))
 }
 
 // 18 of a register record: a bridge above its node has bit 6 set in one of those before it, which stand from `start` on.
@@ -75,36 +71,31 @@ fn record_held(file: &[u8], o: usize, table: &Table, start: usize) -> bool
     requires { (start ≤ o) × (o ≤ 65536) × (o ≤ length file.now) }
     ensures { result ≡ record_held file.now o (tree_of table.now) start }
 {
-    let mut bus = parent_at(table, byte_at(file, o + 1));
-    let mut left = bus as usize + 1;
-    while left > 0 {
-        if bus == 255 {
-            return false;
-        }
-        if record_resets(file, o, start, bus) {
-            return true;
-        }
-        bus = parent_at(table, bus);
-        left -= 1;
-    }
-    false
+    let bus = parent_at(table, byte_at(file, o + 1));
+    any_above(table, bus, |bridge| record_resets(file, o, start, bridge))
 }
 
 // 16 to 18 of the register record at an offset; those before it begin at `registers`, which is 0 where there is none.
-pub fn register_fault(file: &[u8], o: usize, table: &Table, registers: usize, least: usize) -> u8
+pub fn register_fault(
+    file: &[u8],
+    o: usize,
+    table: &Table,
+    registers: usize,
+    least: usize,
+) -> Result<(), Refusal>
     requires { (registers ≤ o) × (o ≤ 65536) × (o + 66 ≤ length file.now) }
-    ensures { result ≡ register_fault file.now o (tree_of table.now) registers least }
+    ensures { number_of result ≡ register_fault file.now o (tree_of table.now) registers least }
 {
     if misplaced(file, o, table, least) {
-        return 16;
+        return Err(Refusal::MisplacedRegisters);
     }
     let wrong = unsound(file, o, table);
     let held = record_held(file, o, table, begin(registers, o));
     if wrong {
-        return 17;
+        return Err(Refusal::BadRegisters);
     }
     if held {
-        return 18;
+        return Err(Refusal::HeldRegisters);
     }
-    0
+    Ok(())
 }

@@ -1,25 +1,22 @@
 -- Bytes put after others, part by part of a record, and number by number of a file.
 use mathlib.Core.Path.{◌≡◌, refl, sym, ap, ◌∙◌}
-use mathlib.Core.List.{List, [], ◌∷◌, ◌++◌}
+use mathlib.Core.List.{List, [], ◌++◌}
 use Prim.Native.Nat.{ℕ, ◌+◌, ◌-◌, ◌≤◌, ◌<◌}
 use native.Mathlib.Omega.{arith}
 use borrow.Rule.Slice.PartMut.{put_mid}
-use lib.ListN.{length, set, length-append}
+use lib.ListN.{length, length-append}
 use lib.Seq.{drop-drop}
 use Rattle.rack.specs.definitions.Buffer.{placed}
 use Rattle.rack.specs.laws.CountLaws.{left_suc, left_none}
 use Rattle.file_save.specs.definitions.Saved.{Put, each}
-use Rattle.file_save.specs.laws.Placed.{placed_none, placed_byte, placed_length, placed_both, placed_opened}
+use Rattle.file_save.specs.laws.Placed.{placed_none, placed_length, placed_both, placed_opened}
 
--- bytes that are known by an equation; no bytes; one byte
+-- bytes that are known by an equation; no bytes
 pub put_same : {at r : ℕ} {a s old new : List ℕ} → Put at a old r new → s ≡ a → Put at s old r new
 put_same p e = rw e p
 
 pub put_none : (at : ℕ) {s old : List ℕ} → s ≡ [] → Put at s old at old
 put_none at {s} {old} e = put_same (record { end = omega arith; out = sym (placed_none at old) }) e
-
-pub put_byte : (at n : ℕ) (old : List ℕ) → at + 1 ≤ length old → Put at (n ∷ []) old (at + 1) (set old at n)
-put_byte at n old h = record { end = refl; out = placed_byte at n old h }
 
 -- a buffer keeps its length
 pub put_kept : {at r : ℕ} {s old new : List ℕ} → Put at s old r new → at + length s ≤ length old → length new ≡ length old
@@ -55,13 +52,6 @@ module _ (f : ℕ → List ℕ) (end : ℕ) (s : List ℕ) (at : ℕ) (old : Lis
   pub record Putting (i next : ℕ) (out : List ℕ) : Type 0 where
     pub rest : Put next (each f i (end - i)) out (at + length s) (placed at s old)
     pub kept : length out ≡ length old
-
-  pub puts_all : {i : ℕ} → s ≡ each f i (end - i) → Putting i at old
-  puts_all e =
-      record {
-        rest = record { end = ap (λ (l : List ℕ). at + length l) e; out = ap (λ (l : List ℕ). placed at l old) e };
-        kept = refl;
-      }
 
   module _ {i next : ℕ} {out : List ℕ} (p : Putting i next out) where
     here : i < end → each f i (end - i) ≡ f i ++ each f (i + 1) (end - (i + 1))
@@ -101,7 +91,3 @@ module _ (f : ℕ → List ℕ) (end : ℕ) (s : List ℕ) (at : ℕ) (old : Lis
           end = omega (arith, p.rest.end, ap length (none h));
           out = sym (p.rest.out ∙ rw (none h) (placed_none next out));
         }
-
--- all numbers below a count are those from 0 on
-pub from_zero : (f : ℕ → List ℕ) {n count : ℕ} → n ≡ count → each f 0 count ≡ each f 0 (n - 0)
-from_zero f {n} e = let z : n ≡ n - 0 = omega arith in ap (each f 0) (sym e ∙ z)

@@ -1,7 +1,7 @@
 // The file of a rack with its registers: host, nodes, seats, and the registers that differ from reset.
 #![tactic(auto)]
 
-pub mod number;
+pub mod put;
 pub mod record;
 pub mod save;
 

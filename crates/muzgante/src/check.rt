@@ -6,6 +6,7 @@ ghost use Rattle.muzgante.specs.definitions.Called.{rack_check};
 
 use call_numbers::{put_reply, refuse};
 use file_load::load_alone;
+use register_image::Registers;
 
 // The check of a rack with its registers. Returns 0, or the refusal's number with `answer` all 0.
 pub fn rack_check<'a>(
@@ -16,11 +17,15 @@ pub fn rack_check<'a>(
 ) -> u8
     ensures { called result answer.new bridges.now devices.now ≡ rack_check rack.now (images bridges.now devices.now) }
 {
-    let l = load_alone(rack);
-    if l.refusal != 0 {
-        return refuse(answer, l.refusal);
-    }
-    let grants = l.grants;
-    let r = call_table::runs::check_on(&l.table, &grants, bridges, devices);
+    let l = match load_alone(rack) {
+        Ok(l) => l,
+        Err(r) => return refuse(answer, u8::from(r.refusal)),
+    };
+    let registers = Registers {
+        table: &l.table,
+        bridges,
+        devices,
+    };
+    let r = call_table::runs::check_on(&registers, &l.grants);
     put_reply(answer, r)
 }

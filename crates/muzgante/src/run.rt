@@ -7,6 +7,7 @@ ghost use Rattle.muzgante.specs.definitions.Called.{rack_run};
 use call_numbers::{put_reply, refuse};
 use file_load::load_alone;
 use file_record::events::{event_bytes, event_in};
+use register_image::RegistersMut;
 
 // One event of a rack on its registers, by the acting seat. Returns 0, or the refusal's number with `answer` all 0 and both images untouched.
 pub fn rack_run(
@@ -19,16 +20,19 @@ pub fn rack_run(
 ) -> u8
     ensures { called result answer.new bridges.new devices.new ≡ rack_run rack.now seat event.now (images bridges.old devices.old) }
 {
-    let l = load_alone(rack);
-    if l.refusal != 0 {
-        return refuse(answer, l.refusal);
+    let l = match load_alone(rack) {
+        Ok(l) => l,
+        Err(r) => return refuse(answer, u8::from(r.refusal)),
+    };
+    if let Err(refusal) = event_bytes(event) {
+        return refuse(answer, u8::from(refusal));
     }
-    let refusal = event_bytes(event);
-    if refusal != 0 {
-        return refuse(answer, refusal);
-    }
+    let mut registers = RegistersMut {
+        table: &l.table,
+        bridges,
+        devices,
+    };
     let e = event_in(event, 0);
-    let grants = l.grants;
-    let r = call_table::runs::run_on(&l.table, &grants, bridges, devices, seat, e);
+    let r = call_table::runs::run_on(&mut registers, &l.grants, seat, e);
     put_reply(answer, r)
 }

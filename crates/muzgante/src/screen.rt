@@ -7,22 +7,29 @@ ghost use Rattle.muzgante.specs.definitions.Called.{rack_window, rack_reset};
 
 use call_numbers::{put_ends, refuse};
 use file_load::load_alone;
+use rack::refusal::Refusal;
+use register_image::{Registers, RegistersMut};
 
 // Both images filled with their reset values. Returns 0, or the refusal's number with both images untouched.
 pub fn rack_reset(rack: &[u8], bridges: &mut [u8], devices: &mut [u8]) -> u8
     ensures { called result zeros bridges.new devices.new ≡ rack_reset rack.now (images bridges.old devices.old) }
 {
-    let l = load_alone(rack);
-    if l.refusal != 0 {
-        return l.refusal;
-    }
-    if register_image::fixed::lengths_wrong(&l.table, bridges, devices) {
-        return 11;
+    let l = match load_alone(rack) {
+        Ok(l) => l,
+        Err(r) => return u8::from(r.refusal),
+    };
+    let mut registers = RegistersMut {
+        table: &l.table,
+        bridges,
+        devices,
+    };
+    if registers.lent().lengths_wrong() {
+        return u8::from(Refusal::WrongLength);
     }
     if seat::table::is_wrong(&l.grants) {
-        return 14;
+        return u8::from(Refusal::BadSeatRecord);
     }
-    register_image::reset::reset_images(&l.table, bridges, devices);
+    registers.reset_images();
     0
 }
 
@@ -38,11 +45,15 @@ pub fn rack_window<'a>(
 ) -> u8
     ensures { called result answer.new bridges.now devices.now ≡ rack_window rack.now (images bridges.now devices.now) node k }
 {
-    let l = load_alone(rack);
-    if l.refusal != 0 {
-        return refuse(answer, l.refusal);
-    }
-    let grants = l.grants;
-    let e = call_node::ends_on(&l.table, &grants, bridges, devices, node, k);
+    let l = match load_alone(rack) {
+        Ok(l) => l,
+        Err(r) => return refuse(answer, u8::from(r.refusal)),
+    };
+    let registers = Registers {
+        table: &l.table,
+        bridges,
+        devices,
+    };
+    let e = call_node::ends_on(&registers, &l.grants, node, k);
     put_ends(answer, e)
 }

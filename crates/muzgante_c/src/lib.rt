@@ -3,7 +3,7 @@
 
 ghost use Rattle.std.specs.Prelude.{◌≡◌};
 ghost use Rattle.register_image.specs.definitions.Image.{images};
-ghost use Rattle.arbiter.specs.definitions.Arbiter.{refusal_of};
+ghost use Rattle.rack.specs.definitions.Refused.{number_of};
 ghost use Rattle.call_numbers.specs.definitions.Numbers.{zeros, arbitration_numbers};
 ghost use Rattle.call_numbers.specs.definitions.Called.{called};
 ghost use Rattle.call_file.specs.definitions.Filed as filed;
@@ -100,7 +100,7 @@ pub extern "C" fn rack_grant(
     low: u8,
     answer: &mut [u64; 8],
 ) -> u8
-    ensures { (result ≡ refusal_of (call.rack_grant mask requests high low)) × (answer.new ≡ arbitration_numbers (call.rack_grant mask requests high low)) }
+    ensures { (result ≡ number_of (call.rack_grant mask requests high low)) × (answer.new ≡ arbitration_numbers (call.rack_grant mask requests high low)) }
 {
     muzgante::share::rack_grant(mask, requests, high, low, answer)
 }

@@ -2,39 +2,42 @@
 use mathlib.Core.Path.{◌≡◌, refl, sym, ap, ◌∙◌}
 use mathlib.Core.Bool.{true, false}
 use mathlib.Core.List.{List, ◌++◌, append_assoc, append-nil}
-use Prim.Native.Nat.{ℕ, zero, suc, ◌+◌, ◌*◌, ◌-◌, ◌≤◌, ◌<◌}
+use Prim.Native.Nat.{ℕ, zero, suc, ◌+◌, ◌-◌, ◌≤◌, ◌<◌}
 use native.Mathlib.Omega.{arith}
-use lib.ListN.{length, take, drop, length-append, length-drop, take-append-drop}
+use lib.ListN.{length, take, drop, length-append, take-append-drop}
 use lib.Seq.{length-take-le, take_at, drop_at, drop-drop}
 use Rattle.rack.specs.definitions.Tree.{Tree}
 use Rattle.seat.specs.definitions.Grants.{Grants}
 use Rattle.register_image.specs.definitions.Image.{Images}
 use Rattle.file_record.specs.definitions.Number.{byte_in}
 use Rattle.file_record.specs.laws.RecordLaws.{size_least}
-use Rattle.print_line.specs.declared.Line.{Line}
-use Rattle.print_line.specs.definitions.Line.{text_of}
+use borrow.Rule.Slice.PartMut.{put_mid}
 use Rattle.print_file.specs.declared.Cursor.{Cursor}
 use Rattle.print_file.specs.definitions.Filling.{Part, behind, past, ran_at, line_at, ends, part_up_to, part_of}
 use Rattle.print_file.specs.definitions.Fills.{Fills, Onward}
 use Rattle.print_file.proofs.FillingLaws.{on, part_stop, part_step, progress}
 
 -- a list with a text put in at an index
-abbrev put_in : List ℕ → ℕ → List ℕ → ℕ → List ℕ
-put_in old at text n = take at old ++ (text ++ drop (at + n) old)
+abbrev put_in : List ℕ → ℕ → List ℕ → List ℕ
+put_in old at text = take at old ++ (text ++ drop (at + length text) old)
 
--- what stands up to the text's end, what stands after it, and the length
-module _ (old : List ℕ) (at : ℕ) (text : List ℕ) (n : ℕ) (long : length text ≡ n) (fits : at + n ≤ length old) where
-  head_long : length (take at old ++ text) ≡ at + n
+-- what stands up to the text's end, and what stands after it
+module _ (old : List ℕ) (at : ℕ) (text : List ℕ) (fits : at + length text ≤ length old) where
+  head_long : length (take at old ++ text) ≡ at + length text
   head_long = omega (arith, length-append (take at old) text, length-take-le at old (omega arith))
 
-  grouped : put_in old at text n ≡ (take at old ++ text) ++ drop (at + n) old
-  grouped = sym (append_assoc (take at old) text (drop (at + n) old))
+  grouped : put_in old at text ≡ (take at old ++ text) ++ drop (at + length text) old
+  grouped = sym (append_assoc (take at old) text (drop (at + length text) old))
 
-  put_take : take (at + n) (put_in old at text n) ≡ take at old ++ text
-  put_take = ap (take (at + n)) grouped ∙ take_at (take at old ++ text) (drop (at + n) old) (at + n) head_long
+  put_take : take (at + length text) (put_in old at text) ≡ take at old ++ text
+  put_take =
+      ap (take (at + length text)) grouped
+      ∙ take_at (take at old ++ text) (drop (at + length text) old) (at + length text) head_long
 
-  put_drop : drop (at + n) (put_in old at text n) ≡ drop (at + n) old
-  put_drop = ap (drop (at + n)) grouped ∙ drop_at (take at old ++ text) (drop (at + n) old) (at + n) head_long
+  put_drop : drop (at + length text) (put_in old at text) ≡ drop (at + length text) old
+  put_drop =
+      ap (drop (at + length text)) grouped
+      ∙ drop_at (take at old ++ text) (drop (at + length text) old) (at + length text) head_long
 
 -- two lists that are the same after an index are the same after a later one
 drop_later : (n m : ℕ) (a b : List ℕ) → drop n a ≡ drop n b → drop (n + m) a ≡ drop (n + m) b
@@ -95,10 +98,6 @@ module _ (t : Tree) (g : Grants) (b old : List ℕ) (at : Cursor) (im₀ : Image
           after = ap (λ (p : Part). p.after) (sym same);
         }
 
-    pub fill_word : FillLeft out next len im → ends b (length out - len) next ≡ false → {n : ℕ} → n ≤ 96
-        → length old * 1 < 9223372036854775808 → len + n < 18446744073709551616
-    fill_word f e h r = omega (arith, f.long, turn_fits b out len next e h)
-
     -- what the next call needs
     pub fill_onward : FillLeft out next len im → ends b (length out - len) next ≡ true
         → Onward b (length old) at (record { len = len; next = next })
@@ -110,40 +109,35 @@ module _ (t : Tree) (g : Grants) (b old : List ℕ) (at : Cursor) (im₀ : Image
           forward = λ r i. rw cursor (progress t g b (length old) at im₀ r i);
         }
 
-    pub fill_next : (line : Line) {new : List ℕ} {after : Images} → FillLeft out next len im → ends b (length out - len) next ≡ false
-        → text_of line ≡ line_at t g b next im → line.len ≤ 96 → length new ≡ length out → after ≡ (ran_at t g b next im).after
-        → new ≡ put_in out len (text_of line) line.len → {to : Cursor} → to ≡ past b next → FillLeft new to (len + line.len) after
-    fill_next line {new} {after} f e text small kept ran put p = rw p (turn f.left f.enough f.same)
+    pub fill_next : {line text new : List ℕ} {after : Images} → FillLeft out next len im → ends b (length out - len) next ≡ false
+        → line ≡ line_at t g b next im → text ≡ line → length text ≤ 96 → length new ≡ length out → after ≡ (ran_at t g b next im).after
+        → new ≡ put_mid len (len + length text - len) out text → {to : Cursor} → to ≡ past b next → FillLeft new to (len + length text) after
+    fill_next {line} {text} {new} {after} f e el et small kept ran copied p = rw p (turn f.left f.enough f.same)
       where
         more : (next.offset < length b) × (96 ≤ length old - len)
         more = on b (length old - len) next (rw f.long at e)
 
-        fits : len + line.len ≤ length out
+        fits : len + length text ≤ length out
         fits = omega (arith, f.long, more.1)
 
-        long : length (text_of line) ≡ line.len
-        long =
-            let head = length-take-le len out (omega (arith, f.long, f.inside)) in
-            let parts = length-append (take len out) (text_of line ++ drop (len + line.len) out) in
-            let tail = length-append (text_of line) (drop (len + line.len) out) in
-            omega (arith, ap length put, parts, head, tail, length-drop (len + line.len) out, fits)
+        put : new ≡ put_in out len text
+        put =
+            let width : len + length text - len ≡ length text = omega arith in
+            copied ∙ rw (width, drop-drop (length text) len out) refl
 
-        room : length old - len - length (line_at t g b next im) ≡ length old - (len + line.len)
-        room = rw (← text, long) (omega arith)
+        room : length old - len - length (line_at t g b next im) ≡ length old - (len + length text)
+        room = rw (← el, ← et) (omega arith)
 
-        so_far : take len out ++ line_at t g b next im ≡ take (len + line.len) new
-        so_far =
-            ap (λ (s : List ℕ). take len out ++ s) (sym text)
-            ∙ sym (put_take out len (text_of line) line.len long fits)
-            ∙ ap (take (len + line.len)) (sym put)
+        so_far : take len out ++ line_at t g b next im ≡ take (len + length text) new
+        so_far = rw (← el, ← et) (sym (put_take out len text fits)) ∙ ap (take (len + length text)) (sym put)
 
         turn : (left : ℕ) → length b ≤ next.offset + left
             → part_of t g b (length old) at im₀ ≡ behind (take len out) (part_up_to left t g b (length old - len) next im)
-            → FillLeft new (past b next) (len + line.len) after
+            → FillLeft new (past b next) (len + length text) after
         turn zero n q = absurd (omega (arith, more.0))
         turn (suc left) n q =
             let rest : ℕ → Images → Part = λ k i. part_up_to left t g b k (past b next) i in
-            let left-room = length old - (len + line.len) in
+            let left-room = length old - (len + length text) in
             record {
               left = left;
               enough = omega (arith, size_least (byte_in b next.offset));
@@ -157,5 +151,5 @@ module _ (t : Tree) (g : Grants) (b old : List ℕ) (at : Cursor) (im₀ : Image
                   ∙ behind_both (take len out) (line_at t g b next im) (rest left-room (ran_at t g b next im).after)
                   ∙ ap (λ (i : Images). behind (take len out ++ line_at t g b next im) (rest left-room i)) (sym ran)
                   ∙ ap (λ (s : List ℕ). behind s (rest left-room after)) so_far;
-              rest = rw put (put_drop out len (text_of line) line.len long fits ∙ drop_later len line.len out old f.rest);
+              rest = rw put (put_drop out len text fits ∙ drop_later len (length text) out old f.rest);
             }

@@ -3,7 +3,6 @@ ghost use Rattle.std.specs.Prelude.{◌≡◌, ◌≤◌, length};
 ghost use Rattle.rack.specs.definitions.Buffer.{over_start};
 ghost use Rattle.print_line.specs.definitions.Line.{refused_line};
 
-use crate::line::put_line;
 use print_line::refused::refused_line;
 
 // Into a buffer; its length.
@@ -12,6 +11,7 @@ pub fn put_refused(number: u8, offset: u32, out: &mut [u8]) -> usize
     ensures { (out.new ≡ over_start out.old (refused_line number offset)) × (result ≡ length (refused_line number offset)) × (result ≤ 96) }
 {
     let line = refused_line(number, offset);
-    put_line(out, 0, line);
-    line.len
+    let text = line.as_bytes();
+    out[..text.len()].copy_from_slice(text);
+    text.len()
 }

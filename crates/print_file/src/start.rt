@@ -1,27 +1,20 @@
 // Where the run of a file begins.
+ghost use Rattle.register_image.specs.definitions.LentMut.{tree_at, images_at, Same};
 ghost use Rattle.std.specs.Prelude.{◌≡◌, ◌≤◌, length};
-ghost use Rattle.rack.specs.definitions.Table.{tree_of};
-ghost use Rattle.register_image.specs.definitions.Image.{images};
 ghost use Rattle.file_record.specs.definitions.Start.{start_from};
 ghost use Rattle.print_file.specs.definitions.Output.{first_at};
 
 use crate::Cursor;
-use rack::table::Table;
+use register_image::RegistersMut;
 
-// Both images as the file's register records have them, which stand from `registers` up to the events, all else at reset; and the first
+// Both images as the file's register records have them, which stand from `first` up to the events, all else at reset; and the first
 // event, whose number is 1, as seat 0.
-pub fn start(
-    file: &[u8],
-    table: &Table,
-    bridges: &mut [u8],
-    devices: &mut [u8],
-    registers: usize,
-    offset: usize,
-) -> Cursor
-    requires { (registers ≤ 65536) × (offset ≤ length file.now) × (length file.now ≤ 65536) }
-    ensures { (result ≡ first_at offset) × (images bridges.new devices.new ≡ start_from file.now (tree_of table.now) registers offset (images bridges.old devices.old)) }
+pub fn start(file: &[u8], registers: &mut RegistersMut, first: usize, offset: usize) -> Cursor
+    requires { (first ≤ 65536) × (offset ≤ length file.now) × (length file.now ≤ 65536) }
+    ensures leaves { (result ≡ first_at offset) × (images_at registers.new ≡ start_from file.now (tree_at registers.old) first offset (images_at registers.old)) }
+    ensures same { Same registers.old registers.new }
 {
-    file_start::start_images(file, table, registers, offset, bridges, devices);
+    file_start::start_images(file, registers, first, offset);
     Cursor {
         offset,
         number: 1,

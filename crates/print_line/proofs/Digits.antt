@@ -1,34 +1,27 @@
 -- One digit more, in hexadecimal and in decimal, and how many digits a number has.
-use Rattle.print_line.specs.definitions.Line.{Added}
-use mathlib.Core.Path.{◌≡◌, refl}
-use mathlib.Core.List.{[], ◌∷◌, ◌++◌}
-use Prim.Native.Nat.{ℕ, zero, suc, ◌+◌, ◌-◌, ◌/◌, ◌%◌, ◌^◌, ◌<◌, ◌≤◌}
-use native.Mathlib.Nat.{pow-suc}
-use native.Mathlib.Numerals.{sub-one}
-use native.Mathlib.Omega.{arith}
-use borrow.Author.Tests.{lt-ltb, le-ltb, ltb-false}
-use lib.Dec.{ltb}
-use lib.ListN.{length, length-append}
+use Rattle.std.specs.Prelude.{◌≡◌, refl, ℕ, zero, suc, ◌+◌, ◌-◌, ◌/◌, ◌%◌, ◌^◌, ◌<◌, ◌≤◌, List, [], ◌∷◌, ◌++◌, ltb, length}
+use Rattle.std.proofs.Common.{sym, arith, pow-suc, sub-one, lt-ltb, le-ltb, ltb-false, append_assoc, append-nil, length-append}
 use Rattle.rack.specs.laws.Bools.{tested}
-use Rattle.print_line.specs.declared.Line.{Line}
 use Rattle.print_line.specs.definitions.Text.{hex_digit, hex_of, decimal_up_to, decimal_of}
-use Rattle.print_line.specs.laws.Added.{added_none, added_both}
 
 hex_step : (k x : ℕ) → (k ≡ 0 → ⊥) → hex_of k x ≡ hex_of (k - 1) (x / 16) ++ (hex_digit (x % 16) ∷ [])
 unfolding hex_of
 hex_step zero x h = absurd (h refl)
 hex_step (suc k) x h = rw (sub-one (suc k))
 
--- no digit
-pub hex_none : (l : Line) (k x : ℕ) → k ≡ 0 → (Added l (hex_of k x) l) × (l.len ≡ l.len + k)
+-- no digit, and the lowest digit after the others, behind a text
+pub hex_none : (s : List ℕ) (k x : ℕ) → k ≡ 0 → s ≡ s ++ hex_of k x
 unfolding hex_of
-hex_none l k x e = rw e (added_none l, omega arith)
+hex_none s k x e = rw e (sym (append-nil s))
 
--- the lowest digit after the others
-pub hex_more : (l : Line) (k x : ℕ) {m n : Line} {b : ℕ} → (k ≡ 0 → ⊥)
-    → (Added l (hex_of (k - 1) (x / 16)) m) × (m.len ≡ l.len + (k - 1)) → b ≡ hex_digit (x % 16) → Added m (b ∷ []) n
-    → (Added l (hex_of k x) n) × (n.len ≡ l.len + k)
-hex_more l k x h a e b = (rw (hex_step k x h) (added_both a.0 (rw e at b)), omega (arith, a.1, b.next))
+pub hex_more : (s : List ℕ) (k x : ℕ) {m r : List ℕ} {b : ℕ} → (k ≡ 0 → ⊥) → m ≡ s ++ hex_of (k - 1) (x / 16) → b ≡ hex_digit (x % 16)
+    → r ≡ m ++ (b ∷ []) → r ≡ s ++ hex_of k x
+hex_more s k x h em eb er = rw (er, em, eb, hex_step k x h) (append_assoc s (hex_of (k - 1) (x / 16)) (hex_digit (x % 16) ∷ []))
+
+pub hex_length : (k x : ℕ) → length (hex_of k x) ≡ k
+unfolding hex_of
+hex_length zero x = refl
+hex_length (suc k) x = omega (arith, length-append (hex_of k (x / 16)) (hex_digit (x % 16) ∷ []), hex_length k (x / 16))
 
 -- a bound that is large enough does not matter
 decimal_enough : (k j x : ℕ) → x ≤ k → x ≤ j → decimal_up_to k x ≡ decimal_up_to j x
@@ -52,12 +45,13 @@ unfolding decimal_of decimal_up_to
 decimal_step zero d = absurd (omega arith)
 decimal_step (suc x) d = rw (le-ltb (suc x) 10 d, decimal_enough x (suc x / 10) (suc x / 10) (omega arith) (omega arith))
 
-pub decimal_one : (l : Line) (x : ℕ) {n : Line} → x < 10 → Added l ((48 + x) ∷ []) n → Added l (decimal_of x) n
-decimal_one l x d a = rw (decimal_last x d) a
+-- behind a text: one digit, and the lowest digit after the others
+pub decimal_one : (s : List ℕ) (x : ℕ) {r : List ℕ} → x < 10 → r ≡ s ++ ((48 + x) ∷ []) → r ≡ s ++ decimal_of x
+decimal_one s x d e = rw (decimal_last x d) e
 
--- the lowest digit after the others
-pub decimal_more : (l : Line) (x : ℕ) {m n : Line} → 10 ≤ x → Added l (decimal_of (x / 10)) m → Added m ((48 + x % 10) ∷ []) n → Added l (decimal_of x) n
-decimal_more l x d a b = rw (decimal_step x d) (added_both a b)
+pub decimal_more : (s : List ℕ) (x : ℕ) {m r : List ℕ} → 10 ≤ x → m ≡ s ++ decimal_of (x / 10) → r ≡ m ++ ((48 + x % 10) ∷ [])
+    → r ≡ s ++ decimal_of x
+decimal_more s x d em er = rw (er, em, decimal_step x d) (append_assoc s (decimal_of (x / 10)) ((48 + x % 10) ∷ []))
 
 pub decimal_once : (x : ℕ) → x < 10 → length (decimal_of x) ≡ 1
 decimal_once x d = rw (decimal_last x d)

@@ -1,4 +1,2 @@
 -- What the functions' proofs use.
-mod Copied
 mod Digits
-mod Fields

@@ -1,7 +1,6 @@
 // Bytes, words and numbers added at the end of a line.
-ghost use Rattle.std.specs.Prelude.{◌≡◌, [], ◌∷◌, ◌+◌, ◌<◌, ◌≤◌, length};
+ghost use Rattle.std.specs.Prelude.{◌≡◌, [], ◌∷◌, ◌++◌, ◌+◌, ◌<◌, ◌≤◌, length};
 ghost use Rattle.print_line.specs.definitions.Text.{hex_digit, hex_of, decimal_of};
-ghost use Rattle.print_line.specs.definitions.Line.{text_of, Added};
 
 use crate::Line;
 
@@ -14,7 +13,7 @@ fn hex_digit(d: u8) -> u8
 
 impl Line {
     pub(crate) fn new() -> Self
-        ensures { (text_of result ≡ []) × (result.len ≡ 0) }
+        ensures { result ≡ [] }
     {
         Self {
             bytes: [0u8; 96],
@@ -23,32 +22,29 @@ impl Line {
     }
 
     pub(crate) fn byte(mut self, b: u8) -> Self
-        requires { self.len < 96 }
-        ensures { Added self (b ∷ []) result }
+        requires { length self < 96 }
+        ensures { result ≡ self ++ (b ∷ []) }
     {
-        let at = self.len;
-        self.bytes[at] = b;
-        self.len = at + 1;
+        self.bytes[self.len] = b;
+        self.len += 1;
         self
     }
 
-    pub(crate) fn word(self, src: &[u8]) -> Self
-        requires { self.len + length src.now ≤ 96 }
-        ensures { Added self src.now result }
+    pub(crate) fn word(mut self, src: &[u8]) -> Self
+        requires { length self + length src.now ≤ 96 }
+        ensures { result ≡ self ++ src.now }
     {
-        let mut l = self;
-        let mut i = 0;
-        while i < src.len() {
-            l = l.byte(src[i]);
-            i += 1;
-        }
-        l
+        let at = self.len;
+        let end = at + src.len();
+        self.bytes[at..end].copy_from_slice(src);
+        self.len = end;
+        self
     }
 
-    // The k lowest hexadecimal digits of x.
+    // The k lowest hexadecimal digits of x, by the definition's recursion: a loop would need the powers of 16.
     pub(crate) fn hex(self, k: usize, x: u64) -> Self
-        requires { self.len + k ≤ 96 }
-        ensures { (Added self (hex_of k x) result) × (result.len ≡ self.len + k) }
+        requires { length self + k ≤ 96 }
+        ensures { result ≡ self ++ hex_of k x }
     {
         if k == 0 {
             return self;
@@ -57,9 +53,10 @@ impl Line {
         l.byte(hex_digit((x % 16) as u8))
     }
 
+    // By the definition's recursion, which writes the highest digit first: a loop finds the lowest first.
     pub(crate) fn decimal(self, x: u32) -> Self
-        requires { self.len + length (decimal_of x) ≤ 96 }
-        ensures { Added self (decimal_of x) result }
+        requires { length self + length (decimal_of x) ≤ 96 }
+        ensures { result ≡ self ++ decimal_of x }
     {
         if x < 10 {
             return self.byte(48 + x as u8);

@@ -9,47 +9,48 @@ use Rattle.rack.specs.definitions.Tree.{Tree}
 use Rattle.register_image.specs.definitions.Image.{Images}
 use Rattle.file_record.specs.declared.Loaded.{Loaded}
 use Rattle.file_record.specs.definitions.Load.{file_in}
-use Rattle.file_record.specs.definitions.Loads.{Loads}
+use Rattle.file_record.specs.declared.Refused.{Refused}
+use Rattle.file_record.specs.definitions.Loads.{Accepts, Refuses}
+use Rattle.rack.specs.laws.RefusedLaws.{refusal_not_0}
 use Rattle.file_record.specs.definitions.Start.{start_from, start_images}
 use Rattle.file_record.specs.laws.LoadLaws.{file_long, file_begun, file_offset}
 use Rattle.print_file.specs.declared.Cursor.{Cursor}
 use Rattle.print_file.specs.definitions.Output.{first_at}
-use Rattle.print_output.specs.declared.Rest.{Rest}
-use Rattle.print_output.specs.declared.Rest.TheVariants.{Refused, Events}
+use Rattle.print_output.specs.declared.Rest.TheVariants as rest
 use Rattle.print_output.specs.definitions.Rest.{standing, first_of}
-use Rattle.print_output.specs.laws.RestLaws.{first_accepted, first_refused}
+use Rattle.print_output.specs.laws.RestLaws.{refusal_back, first_accepted, first_refused}
 
-module _ (b : List ℕ) {l : Loaded} (loads : Loads l (file_in b)) where
-  pub loaded_offset : l.offset ≤ 65536
-  loaded_offset = rw loads.offset (file_offset b)
+module _ (b : List ℕ) {r : Refused} (loads : Refuses r (file_in b)) where
+  pub refused_offset : r.offset ≤ 65536
+  refused_offset = rw loads.offset (file_offset b)
 
-  pub rest_refused : (im : Images) → (l.refusal ≡ 0 → ⊥) → {rest : Rest} → rest ≡ Refused l.refusal l.offset
-      → standing rest im ≡ first_of b im
-  rest_refused im bad e =
-      rw (e, loads.refusal, loads.offset) (sym (first_refused b im (λ z. bad (loads.refusal ∙ z))))
+  pub rest_refused : (im : Images) → standing (rest.Refused r.refusal r.offset) im ≡ first_of b im
+  rest_refused im =
+      let bad : (file_in b).refusal ≡ 0 → ⊥ = λ z. refusal_not_0 r.refusal (loads.refusal ∙ z) in
+      sym (first_refused b im bad ∙ rw (← loads.refusal, refusal_back r.refusal, ← loads.offset))
 
-  module _ (good : l.refusal ≡ 0) where
-    accepted : (file_in b).refusal ≡ 0
-    accepted = sym loads.refusal ∙ good
+module _ (b : List ℕ) {l : Loaded} (loads : Accepts l (file_in b)) where
+  accepted : (file_in b).refusal ≡ 0
+  accepted = sym loads.refusal
 
-    -- the register records and the events begin within the file
-    pub registers_fit : l.registers ≤ 65536
-    registers_fit = rw (loads.registers accepted) (omega (arith, (file_begun b accepted).0, file_long b accepted))
+  -- the register records and the events begin within the file
+  pub registers_fit : l.registers ≤ 65536
+  registers_fit = rw loads.registers (omega (arith, (file_begun b accepted).0, file_long b accepted))
 
-    pub events_fit : l.offset ≤ length b
-    events_fit = rw loads.offset (file_begun b accepted).1
+  pub events_fit : l.offset ≤ length b
+  events_fit = rw loads.offset (file_begun b accepted).1
 
-    pub file_fits : length b ≤ 65536
-    file_fits = file_long b accepted
+  pub file_fits : length b ≤ 65536
+  file_fits = file_long b accepted
 
-    pub rest_events : (im : Images) {first : Cursor} {after : Images} → first ≡ first_at l.offset
-        → after ≡ start_from b (tree_of l.table) l.registers l.offset im → standing (Events first) after ≡ first_of b im
-    rest_events im {first} {after} e s =
-        let t = (file_in b).tree in
-        let start : after ≡ start_images b im =
-        s ∙ ap (λ (u : Tree). start_from b u l.registers l.offset im) (loads.tree accepted)
-        ∙ ap (λ (n : ℕ). start_from b t n l.offset im) (loads.registers accepted)
-        ∙ ap (λ (n : ℕ). start_from b t (file_in b).registers n im) loads.offset in
-        ap (λ (c : Cursor). standing (Events c) after) (e ∙ ap first_at loads.offset)
-        ∙ ap (standing (Events (first_at (file_in b).offset))) start
-        ∙ sym (first_accepted b im accepted)
+  pub rest_events : (im : Images) {first : Cursor} {after : Images} → first ≡ first_at l.offset
+      → after ≡ start_from b (tree_of l.table) l.registers l.offset im → standing (rest.Events first) after ≡ first_of b im
+  rest_events im {first} {after} e s =
+      let t = (file_in b).tree in
+      let start : after ≡ start_images b im =
+      s ∙ ap (λ (u : Tree). start_from b u l.registers l.offset im) loads.tree
+      ∙ ap (λ (n : ℕ). start_from b t n l.offset im) loads.registers
+      ∙ ap (λ (n : ℕ). start_from b t (file_in b).registers n im) loads.offset in
+      ap (λ (c : Cursor). standing (rest.Events c) after) (e ∙ ap first_at loads.offset)
+      ∙ ap (standing (rest.Events (first_at (file_in b).offset))) start
+      ∙ sym (first_accepted b im accepted)

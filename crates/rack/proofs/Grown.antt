@@ -142,10 +142,10 @@ pub to_more : (rack : Rack) (k : ℕ) {t u : Tree} → t ≡ tree_to rack k → 
 unfolding tree_with
 to_more rack k e g = rw (add-one k) (g ∙ ap (λ (t : Tree). grown t (get_or rack.nodes k no_node)) e)
 
--- the place of a bridge or a device after the last, by the count of bridges alone
-pub place_next : (node : ℕ → Node) (b : Bool) {n count bridges p : ℕ} → n ≡ count → bridges ≡ bridges_below node n → p ≡ cond b bridges (n - bridges)
-    → p ≡ cond b (bridges_below node count) (devices_below node count)
-place_next node b at e q = q ∙ rw (e, at, devices_left node _)
+-- the place of a device after the last, by the count of bridges alone
+pub devices_next : (node : ℕ → Node) {n count bridges : ℕ} → n ≡ count → bridges ≡ bridges_below node n
+    → n - bridges ≡ devices_below node count
+devices_next node at e = rw (e, at, devices_left node _)
 
 -- with the last word set
 module _ (table : List ℕ) (end : ℕ) where

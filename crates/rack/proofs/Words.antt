@@ -1,26 +1,45 @@
 -- The two words of a node: set in a table, and read back.
 use mathlib.Core.Path.{◌≡◌, sym, ◌∙◌}
 use mathlib.Core.Bool.{Bool, true, false}
-use mathlib.Core.List.{List}
+use mathlib.Core.List.{List, [], ◌∷◌}
 use Prim.Native.Nat.{ℕ, ◌+◌, ◌*◌, ◌/◌, ◌%◌, ◌<◌}
 use native.Mathlib.Omega.{arith}
 use borrow.Author.Tests.{lt-ltb, ltb-true}
 use lib.Dec.{ltb}
 use lib.ListN.{length, get_or, set, length-set}
 use lib.Seq.{get_or-set_same, get_or-set_other}
+use Rattle.std.specs.Int.{to_le_bytes, w64}
 use Rattle.rack.specs.declared.Kind.{Kind}
 use Rattle.rack.specs.declared.Region.{Region}
 use Rattle.rack.specs.declared.Node.{Node}
 use Rattle.rack.specs.laws.Bools.{tested}
 use Rattle.rack.specs.laws.NodeLaws.{kind_back}
 use Rattle.rack.specs.definitions.Node.{kind_number, kind_from, is_bridge, no_region, region_in, own_region, spelt}
-use Rattle.rack.specs.definitions.Table.{Bytes, Low, High, node_from, low_at, high_at, node_at, table_with}
+use Rattle.rack.specs.definitions.Table.{Bytes, Low, High, node_from, low_at, high_at, node_at, table_with, region_of}
 
 -- whether a node is a bridge, from its low word
 pub kind_read : (table : List ℕ) (i : ℕ) {low : ℕ} {k : Kind} {is : Bool} → low ≡ low_at table i → k ≡ kind_from (low % 256) → is ≡ is_bridge k
     → is ≡ is_bridge (node_at table i).kind
 unfolding node_at
 kind_read table i l k e = rw (e, k, l)
+
+-- a node from the bytes of its two words
+pub node_read : (low high : ℕ) {xs ys : List ℕ} {k : Kind} {v d : ℕ} → xs ≡ to_le_bytes w64 low → ys ≡ to_le_bytes w64 high
+    → k ≡ kind_from (get_or xs 0 0) → v ≡ get_or ys 2 0 + get_or ys 3 0 * 256 → d ≡ get_or ys 4 0 + get_or ys 5 0 * 256
+    → record {
+      kind = k;
+      parent = get_or xs 1 0;
+      device = get_or xs 2 0;
+      vendor_id = v;
+      device_id = d;
+      regions =
+          region_of (get_or xs 4 0) (get_or xs 5 0) ∷ region_of (get_or xs 6 0) (get_or xs 7 0)
+          ∷ region_of (get_or ys 0 0) (get_or ys 1 0) ∷ [];
+    } ≡ node_from low high
+node_read low high lows highs kind vendor device =
+    let v : high / 0x10000 % 256 + high / 0x1000000 % 256 * 256 ≡ high / 0x10000 % 65536 = omega arith in
+    let d : high / 0x100000000 % 256 + high / 0x10000000000 % 256 * 256 ≡ high / 0x100000000 % 65536 = omega arith in
+    rw (kind, vendor, device, lows, highs, v, d)
 
 -- a node whose two words are those of another table
 module _ (table other : List ℕ) (k : ℕ) (low : k < 96 → get_or table (2 * k) 0 ≡ get_or other (2 * k) 0)

@@ -5,5 +5,6 @@ pub mod Tree
 pub mod Stored
 pub mod First
 pub mod Refusal
+pub mod Refused
 pub mod Table
 pub mod Grow

@@ -3,6 +3,8 @@ pub mod CountLaws
 pub mod Search
 pub mod TreeLaws
 pub mod FirstLaws
+pub mod RefusedLaws
 pub mod GrowLaws
 pub mod NodeLaws
 pub mod Copied
+pub mod AnyLaws

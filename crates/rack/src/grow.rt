@@ -5,7 +5,7 @@ ghost use Rattle.rack.specs.definitions.Table.{tree_of, table_with};
 ghost use Rattle.rack.specs.definitions.Grow.{memory_of, no_tree, new_depth, grown};
 
 use crate::table::{
-    Table, bridges_below, count_of, deepest, depth_at, end_word, greater, high_word, low_word, pick,
+    Table, bridges_below, count_of, deepest, depth_at, end_word, high_word, low_word,
 };
 use crate::{Node, Range};
 
@@ -35,10 +35,9 @@ fn new_place(table: &Table, is: bool) -> u8
     requires { (tree_of table.now).count < 96 }
     ensures { result ≡ cond is (bridge_count (tree_of table.now)) (device_count (tree_of table.now)) }
 {
-    let at = count_of(table) as usize;
-    let bridges = bridges_below(table, at);
-    let devices = at - bridges;
-    pick(is, bridges as u8, devices as u8)
+    let count = count_of(table);
+    let bridges = bridges_below(table, count as usize) as u8;
+    if is { bridges } else { count - bridges }
 }
 
 // The depth of the bus that a node after the last would hold.
@@ -58,11 +57,9 @@ fn put_words(table: &mut Table, at: usize, low: u64, high: u64, end: u64)
     requires { at < 96 }
     ensures { (length table.old ≡ 195) × (table.new ≡ table_with table.old at low high end) }
 {
-    // As a slice: the proof is told its length, and not that of an array behind a reference.
-    let all = &mut table[..];
-    all[2 * at] = low;
-    all[2 * at + 1] = high;
-    all[194] = end;
+    table[2 * at] = low;
+    table[2 * at + 1] = high;
+    table[194] = end;
 }
 
 // One node more, after the last.
@@ -71,11 +68,10 @@ pub fn add_node(table: &mut Table, n: Node)
     ensures { tree_of table.new ≡ grown (tree_of table.old) n }
 {
     let count = count_of(table);
-    let kind = n.kind;
-    let is = crate::is_bridge(kind);
+    let is = n.kind.is_bridge();
     let place = new_place(table, is);
     let depth = new_depth(table, n.parent);
-    let greatest = greater(deepest(table), pick(is, depth, 0));
+    let greatest = deepest(table).max(if is { depth } else { 0 });
     put_words(
         table,
         count as usize,

@@ -5,17 +5,55 @@ ghost use Rattle.std.specs.Prelude.{◌≡◌};
 ghost use Rattle.rack.specs.definitions.Node.{kind_number, kind_from, is_bridge};
 
 pub mod grow;
+pub mod refusal;
 pub mod table;
 
-// What a node is; one number each, as the rack file has it (`kind_number`). An older bridge is one of specification revision 1.1.
-#[derive(Clone, Copy)]
+// What a node is; one number each, as the rack file has it (`u8::from`). An older bridge is one of specification revision 1.1.
+#[derive(Clone, Copy, PartialEq, Eq)]
 pub enum Kind {
     Device,
     Bridge,
     OlderBridge,
 }
 
+impl Kind {
+    pub fn is_bridge(self) -> bool
+        ensures { result ≡ is_bridge self }
+    {
+        match self {
+            Kind::Device => false,
+            Kind::Bridge | Kind::OlderBridge => true,
+        }
+    }
+}
+
+impl From<Kind> for u8 {
+    ghost from_gives = { λ kind number. number ≡ kind_number kind };
+
+    fn from(kind: Kind) -> u8 {
+        match kind {
+            Kind::Device => 3,
+            Kind::Bridge => 2,
+            Kind::OlderBridge => 13,
+        }
+    }
+}
+
+// The kind that has a number.
+impl From<u8> for Kind {
+    ghost from_gives = { λ number kind. kind ≡ kind_from number };
+
+    fn from(number: u8) -> Kind {
+        match number {
+            2 => Kind::Bridge,
+            13 => Kind::OlderBridge,
+            _ => Kind::Device,
+        }
+    }
+}
+
 // A base address region: kind 0 none, 1 I/O, 2 32-bit memory, 3 64-bit memory; it has 2 to the exponent bytes.
+// The kind is a byte and no enum: a rack may hand in any, and refusal 10 judges it.
 #[derive(Clone, Copy)]
 pub struct Region {
     pub kind: u8,
@@ -41,6 +79,7 @@ pub struct Range {
 }
 
 // What a seat may write of a node: whether a seat record names the two together, and its mask, bit i for dword i.
+// No `Option` of a mask: a decoded rack may say a mask of a pair that no record names, which the definitions over `Rack` leave unread.
 #[derive(Clone, Copy)]
 pub struct Grant {
     pub named: bool,
@@ -56,37 +95,4 @@ pub struct Rack {
     pub count: u8,
     pub nodes: [Node; 96],
     pub grants: [Grant; 1440],
-}
-
-pub fn kind_number(k: Kind) -> u8
-    ensures { result ≡ kind_number k }
-{
-    match k {
-        Kind::Device => 3,
-        Kind::Bridge => 2,
-        Kind::OlderBridge => 13,
-    }
-}
-
-// The kind that has a number.
-pub fn kind_from(n: u8) -> Kind
-    ensures { result ≡ kind_from n }
-{
-    if n == 2 {
-        return Kind::Bridge;
-    }
-    if n == 13 {
-        return Kind::OlderBridge;
-    }
-    Kind::Device
-}
-
-pub fn is_bridge(k: Kind) -> bool
-    ensures { result ≡ is_bridge k }
-{
-    match k {
-        Kind::Device => false,
-        Kind::Bridge => true,
-        Kind::OlderBridge => true,
-    }
 }

@@ -1,2 +1,3 @@
 -- What the functions' proofs use.
 mod Few
+mod Ranges

@@ -3,19 +3,19 @@
 
 ghost use Rattle.std.specs.Prelude.{◌≡◌};
 ghost use Rattle.rack.specs.definitions.Table.{node_at, tree_of};
+ghost use Rattle.rack.specs.definitions.Refused.{number_of};
 ghost use Rattle.rack.specs.definitions.Refusal.{too_many, bad_parent, high_device, same_slot, taken_device, region_range, regions_range, bad_region, node_refusal, rack_refusal};
 
-use rack::Node;
+use rack::refusal::Refusal;
 use rack::table::{Table, bridges_below, count_of, node_at};
+use rack::{Node, Region};
 
 // Refusal 6: a 33rd bridge or a 65th device.
 fn too_many(table: &Table, i: usize) -> bool
     ensures { result ≡ too_many (node_at table.now) i }
 {
     let bridges = bridges_below(table, i);
-    let n = node_at(table, i);
-    let kind = n.kind;
-    if rack::is_bridge(kind) {
+    if node_at(table, i).kind.is_bridge() {
         32 <= bridges
     } else {
         64 <= i - bridges
@@ -28,9 +28,7 @@ fn bad_parent(table: &Table, i: usize) -> bool
 {
     let n = node_at(table, i);
     let parent = n.parent as usize;
-    let above = node_at(table, parent);
-    let kind = above.kind;
-    let bridge = rack::is_bridge(kind);
+    let bridge = node_at(table, parent).kind.is_bridge();
     !((parent == 255) | ((parent < i) & bridge))
 }
 
@@ -38,8 +36,7 @@ fn bad_parent(table: &Table, i: usize) -> bool
 fn high_device(table: &Table, i: usize) -> bool
     ensures { result ≡ high_device (node_at table.now) i }
 {
-    let n = node_at(table, i);
-    15 < n.device
+    15 < node_at(table, i).device
 }
 
 fn same_slot(m: Node, n: Node) -> bool
@@ -53,33 +50,25 @@ fn taken_device(table: &Table, i: usize) -> bool
     ensures { result ≡ taken_device (node_at table.now) i }
 {
     let n = node_at(table, i);
-    let mut j: usize = 0;
-    while j < i {
-        if same_slot(node_at(table, j), n) {
-            return true;
-        }
-        j += 1;
-    }
-    false
+    (0..i).any(|j| same_slot(node_at(table, j), n))
 }
 
-fn region_range(kind: u8, e: u8) -> bool
-    ensures { result ≡ region_range kind e }
+fn region_range(r: Region) -> bool
+    ensures { result ≡ region_range r.kind r.exponent }
 {
-    ((kind == 0) & (e == 0))
-        | ((kind == 1) & ((2 <= e) & (e <= 8)))
-        | (((kind == 2) | (kind == 3)) & ((4 <= e) & (e <= 31)))
+    let e = r.exponent;
+    match r.kind {
+        0 => e == 0,
+        1 => (2 <= e) & (e <= 8),
+        2 | 3 => (4 <= e) & (e <= 31),
+        _ => false,
+    }
 }
 
 fn regions_range(n: Node) -> bool
     ensures { result ≡ regions_range n }
 {
-    let r0 = n.regions[0];
-    let r1 = n.regions[1];
-    let r2 = n.regions[2];
-    region_range(r0.kind, r0.exponent)
-        & region_range(r1.kind, r1.exponent)
-        & region_range(r2.kind, r2.exponent)
+    n.regions.iter().all(|r| region_range(*r))
 }
 
 // Refusal 10: a region whose kind or exponent is out of range.
@@ -87,41 +76,38 @@ fn bad_region(table: &Table, i: usize) -> bool
     ensures { result ≡ bad_region (node_at table.now) i }
 {
     let n = node_at(table, i);
-    let kind = n.kind;
-    !(rack::is_bridge(kind) | regions_range(n))
+    !(n.kind.is_bridge() | regions_range(n))
 }
 
-// The lowest number that applies to a node, 0 where none does.
-pub fn node_refusal(table: &Table, i: usize) -> u8
-    ensures { result ≡ node_refusal (node_at table.now) i }
+// The lowest number that applies to a node.
+pub fn node_refusal(table: &Table, i: usize) -> Result<(), Refusal>
+    ensures { number_of result ≡ node_refusal (node_at table.now) i }
 {
     if too_many(table, i) {
-        return 6;
+        return Err(Refusal::TooManyNodes);
     }
     if bad_parent(table, i) {
-        return 7;
+        return Err(Refusal::BadParent);
     }
     if high_device(table, i) {
-        return 8;
+        return Err(Refusal::HighDevice);
     }
     if taken_device(table, i) {
-        return 9;
+        return Err(Refusal::TakenDevice);
     }
-    if bad_region(table, i) { 10 } else { 0 }
+    if bad_region(table, i) {
+        return Err(Refusal::BadRegion);
+    }
+    Ok(())
 }
 
-// The refusal of a rack's table, 0 where there is none.
-pub fn refusal_of(table: &Table) -> u8
-    ensures { result ≡ rack_refusal (tree_of table.now) }
+// The refusal of a rack's table: that of its first faulty node.
+pub fn refusal_of(table: &Table) -> Result<(), Refusal>
+    ensures { number_of result ≡ rack_refusal (tree_of table.now) }
 {
     let end = count_of(table) as usize;
-    let mut i: usize = 0;
-    while i < end {
-        let found = node_refusal(table, i);
-        if found != 0 {
-            return found;
-        }
-        i += 1;
+    for i in 0..end {
+        node_refusal(table, i)?;
     }
-    0
+    Ok(())
 }

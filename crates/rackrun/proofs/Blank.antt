@@ -53,8 +53,8 @@ take_zeros (suc n) (suc most) h = ap (λ (l : List ℕ). 0 ∷ l) (take_zeros n 
 
 -- both parts are the images of an accepted rack before they are set
 pub parts_blank : (t : Tree) (b d : ℕ) (l m : List ℕ) → l ≡ replicate 2048 0 → m ≡ replicate 4096 0 → b ≤ 2048 → d ≤ 4096
-    → {refusal : ℕ} → (refusal ≡ 0 → (b ≡ 64 * bridge_count t) × (d ≡ 64 * device_count t)) → refusal ≡ 0
+    → (b ≡ 64 * bridge_count t) × (d ≡ 64 * device_count t)
     → images (take b l) (take d m) ≡ blank t
-parts_blank t b d l m el em hb hd n z =
-    ap (λ (x : List ℕ). images x (take d m)) (ap (take b) el ∙ take_zeros b 2048 hb ∙ ap (λ (k : ℕ). replicate k 0) (n z).0)
-    ∙ ap (images (replicate (64 * bridge_count t) 0)) (ap (take d) em ∙ take_zeros d 4096 hd ∙ ap (λ (k : ℕ). replicate k 0) (n z).1)
+parts_blank t b d l m el em hb hd n =
+    ap (λ (x : List ℕ). images x (take d m)) (ap (take b) el ∙ take_zeros b 2048 hb ∙ ap (λ (k : ℕ). replicate k 0) n.0)
+    ∙ ap (images (replicate (64 * bridge_count t) 0)) (ap (take d) em ∙ take_zeros d 4096 hd ∙ ap (λ (k : ℕ). replicate k 0) n.1)

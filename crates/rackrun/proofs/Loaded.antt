@@ -1,28 +1,32 @@
 -- What is left at first of the output of a file that was loaded.
 use mathlib.Core.Path.{◌≡◌, sym, ap, subst, ◌∙◌}
 use mathlib.Core.List.{List}
-use Prim.Native.Nat.{ℕ, ◌≤◌}
+use Prim.Native.Nat.{ℕ, ◌*◌, ◌≤◌}
 use native.Mathlib.Omega.{arith}
 use lib.Dec.{eqb}
+use lib.ListN.{take, replicate}
 use borrow.Author.Tests.{eqb-true, eqb-false}
 use Rattle.rack.specs.laws.Bools.{tested}
 use Rattle.rack.specs.definitions.Table.{tree_of}
-use Rattle.rack.specs.definitions.Tree.{Tree}
+use Rattle.std.specs.Prelude.{Result, Ok, Err, IfOk}
+use Rattle.rack.specs.definitions.Tree.{Tree, bridge_count, device_count}
 use Rattle.rack.specs.definitions.Refusal.{rack_refusal}
 use Rattle.seat.specs.definitions.Grants.{Grants}
 use Rattle.seat.specs.definitions.Table.{grants_of}
-use Rattle.register_image.specs.definitions.Image.{Images}
+use Rattle.register_image.specs.definitions.Image.{Images, images}
 use Rattle.file_record.specs.declared.Loaded.{Loaded}
 use Rattle.file_record.specs.definitions.Load.{file_in}
-use Rattle.file_record.specs.definitions.Loads.{Loads}
+use Rattle.file_record.specs.declared.Refused.{Refused}
+use Rattle.file_record.specs.definitions.Loads.{Loads, Accepts, Refuses}
+use Rattle.rack.specs.laws.RefusedLaws.{refusal_not_0}
+use Rattle.rackrun.proofs.Blank.{parts_blank}
 use Rattle.file_record.specs.laws.LoadLaws.{file_accepted, file_long}
 use Rattle.print_file.specs.definitions.Output.{blank}
 use Rattle.print_output.specs.declared.Rest.{Rest}
 use Rattle.print_output.specs.definitions.Rest.{Standing, standing, first_of, output_from, end_from}
 use Rattle.print_output.specs.definitions.Piece.{Ready, to_go}
 use Rattle.print_output.specs.laws.RestLaws.{first_accepted, first_refused, first_output}
-use Rattle.rackrun.specs.declared.Printed.{Printed}
-use Rattle.rackrun.specs.definitions.Run.{run_end, Prints}
+use Rattle.rackrun.specs.definitions.Run.{run_end}
 use Rattle.rackrun.specs.definitions.Written.{Stands}
 
 -- tables that hold an accepted file's rack and its grants; those of a refused one play no part
@@ -72,18 +76,39 @@ module _ (b : List ℕ) (t : Tree) (g : Grants) (et : (file_in b).refusal ≡ 0 
     ends_first : end_from t g b rest after ≡ run_end b im
     ends_first = ap (λ (s : Standing). end_from t g b s.rest s.before) e ∙ same_end
 
-module _ (b : List ℕ) (l : Loaded) (loads : Loads l (file_in b)) where
-  -- the rack of an accepted file is accepted
-  pub loaded_rack : l.refusal ≡ 0 → rack_refusal (tree_of l.table) ≡ 0
-  loaded_rack z = let e = sym loads.refusal ∙ z in ap rack_refusal (loads.tree e) ∙ file_accepted b e
+-- of an accepted file, whose rack is accepted
+module _ (b : List ℕ) (l : Loaded) (loads : Accepts l (file_in b)) where
+  pub loaded_rack : rack_refusal (tree_of l.table) ≡ 0
+  loaded_rack = ap rack_refusal loads.tree ∙ file_accepted b (sym loads.refusal)
 
   module _ (im : Images) (rest : Rest) (after : Images) (e : standing rest after ≡ first_of b im) where
-    pub first_stands : (l.refusal ≡ 0 → im ≡ blank (tree_of l.table))
-        → Stands b (tree_of l.table) (grants_of l.grants) (record { done = 0; rest = rest }) after
+    pub first_stands : im ≡ blank (tree_of l.table) → Stands b (tree_of l.table) (grants_of l.grants) (record { done = 0; rest = rest }) after
     first_stands h =
-        stands_first b (tree_of l.table) (grants_of l.grants) loads.tree loads.grants im e (λ z. h (loads.refusal ∙ z))
+        stands_first b (tree_of l.table) (grants_of l.grants) (λ z. loads.tree) (λ z. loads.grants) im e (λ z. h)
 
-    pub first_end : (w : Printed) (fin : Images) (n : ℕ) → Prints w fin n (end_from (tree_of l.table) (grants_of l.grants) b rest after)
-        → Prints w fin n (run_end b im)
-    first_end w fin n p =
-        subst (Prints w fin n) (ends_first b (tree_of l.table) (grants_of l.grants) loads.tree loads.grants im e) p
+    pub first_end : end_from (tree_of l.table) (grants_of l.grants) b rest after ≡ run_end b im
+    first_end = ends_first b (tree_of l.table) (grants_of l.grants) (λ z. loads.tree) (λ z. loads.grants) im e
+
+-- of a refused one, whatever the tables hold
+module _ (b : List ℕ) (r : Refused) (loads : Refuses r (file_in b)) (t : Tree) (g : Grants) (im : Images) (rest : Rest) (after : Images)
+    (e : standing rest after ≡ first_of b im) where
+  bad : (file_in b).refusal ≡ 0 → ⊥
+  bad z = refusal_not_0 r.refusal (loads.refusal ∙ z)
+
+  pub refused_stands : Stands b t g (record { done = 0; rest = rest }) after
+  refused_stands = stands_first b t g (λ z. absurd (bad z)) (λ z. absurd (bad z)) im e (λ z. absurd (bad z))
+
+  pub refused_end : end_from t g b rest after ≡ run_end b im
+  refused_end = ends_first b t g (λ z. absurd (bad z)) (λ z. absurd (bad z)) im e
+
+-- a file that was loaded, accepted or refused: its rack is accepted, and zeros are its images before they are set
+module _ (b : List ℕ) where
+  pub rack_read : (r : Result Loaded Refused) → Loads r (file_in b) → IfOk r (λ l. rack_refusal (tree_of l.table) ≡ 0)
+  rack_read (Ok l) h = loaded_rack b l h
+  rack_read (Err e) h = tt
+
+pub images_read : (r : Result Loaded Refused) (m n : ℕ) (bs ds : List ℕ) → bs ≡ replicate 2048 0 → ds ≡ replicate 4096 0 → (m ≤ 2048) × (n ≤ 4096)
+    → IfOk r (λ l. (m ≡ 64 * bridge_count (tree_of l.table)) × (n ≡ 64 * device_count (tree_of l.table)))
+    → IfOk r (λ l. images (take m bs) (take n ds) ≡ blank (tree_of l.table))
+images_read (Ok l) m n bs ds eb ed fit h = parts_blank (tree_of l.table) m n bs ds eb ed fit.0 fit.1 h
+images_read (Err e) m n bs ds eb ed fit h = tt

@@ -1,23 +1,22 @@
 -- The bytes that the program writes are the next of the output, and each part brings it further.
 use mathlib.Core.Path.{◌≡◌, refl, sym, ap, ◌∙◌}
-use mathlib.Core.Bool.{Bool, true, false}
+use mathlib.Core.Bool.{true, false}
 use mathlib.Core.List.{List, ◌++◌}
 use Prim.Native.Nat.{ℕ, ◌+◌, ◌≤◌, ◌<◌}
 use native.Mathlib.Omega.{arith}
 use lib.ListN.{length, take, drop, length-append, length-drop}
 use lib.Seq.{take_at, drop_at, drop-drop}
+use Rattle.std.specs.Prelude.{Result, Ok, Err}
 use Rattle.rack.specs.definitions.Tree.{Tree}
 use Rattle.seat.specs.definitions.Grants.{Grants}
 use Rattle.register_image.specs.definitions.Image.{Images}
 use Rattle.print_file.specs.definitions.Output.{output_of}
 use Rattle.print_output.specs.declared.Put.{Put}
 use Rattle.print_output.specs.declared.Rest.{Rest}
-use Rattle.print_output.specs.definitions.Rest.{Standing, output_from, is_done, end_from}
+use Rattle.print_output.specs.definitions.Rest.{Standing, standing, output_from, is_done, end_from}
 use Rattle.print_output.specs.definitions.Piece.{piece_of, Puts, to_go, Onward}
 use Rattle.print_output.specs.laws.RestLaws.{done_nothing}
 use Rattle.rackrun.specs.declared.Progress.{Progress}
-use Rattle.rackrun.specs.declared.Printed.{Printed}
-use Rattle.rackrun.specs.declared.Printed.TheVariants.{UpTo, Failed}
 use Rattle.rackrun.specs.definitions.Run.{Prints, PrintsPiece}
 use Rattle.rackrun.specs.definitions.Written.{IsNext, Stands, Writes, Later, WritesPart, WritesAll}
 use Rattle.rackrun.proofs.Ends.{piece_end, done_end}
@@ -69,14 +68,14 @@ module _ (b : List ℕ) (t : Tree) (g : Grants) (p : Progress) (im : Images) (r 
           same = rw (puts.rest, puts.after) (piece_end t g b room p.rest im);
         }
 
-    pub part_later : (w : Printed) → Writes w (p.done + r.len) r.rest → WritesPart b t g p im w after
-    part_later (UpTo q) e = rw e later
-    part_later Failed e = tt
+    pub part_later : {E : Type 0} (w : Result Progress E) → Writes w (p.done + r.len) r.rest → WritesPart b t g p im w after
+    part_later (Ok q) e = rw e later
+    part_later (Err x) e = tt
 
-    pub part_printed : (w : Printed) → Writes w (p.done + r.len) r.rest
+    pub part_printed : {E : Type 0} (w : Result Progress E) → Writes w (p.done + r.len) r.rest
         → PrintsPiece w after p.done (piece_of t g b 65536 p.rest im)
-    part_printed (UpTo q) e = rw (e, full, puts.len, puts.rest, puts.after) (refl, refl)
-    part_printed Failed e = tt
+    part_printed (Ok q) e = rw (e, full, puts.len, puts.rest, puts.after) (refl, refl)
+    part_printed (Err x) e = tt
 
 -- its bytes are the next of the output
 pub next_bytes : (b : List ℕ) (t : Tree) (g : Grants) (p : Progress) (im : Images) (rest : Rest) (after : Images) (bytes : List ℕ)
@@ -84,10 +83,6 @@ pub next_bytes : (b : List ℕ) (t : Tree) (g : Grants) (p : Progress) (im : Ima
 next_bytes b t g p im rest after bytes s text =
     sym
     (ap (take (length bytes)) (s.left ∙ sym text) ∙ take_at bytes (output_from t g b rest after) (length bytes) refl)
-
--- what is left is not done
-pub not_done : (b : List ℕ) (rest : Rest) {r : Bool} → r ≡ is_done b rest → r ≡ false → is_done b rest ≡ false
-not_done b rest e h = sym e ∙ h
 
 -- the parts one after another
 module _ (b : List ℕ) (t : Tree) (g : Grants) (first : Rest) (im₀ : Images) where
@@ -102,18 +97,14 @@ module _ (b : List ℕ) (t : Tree) (g : Grants) (first : Rest) (im₀ : Images) 
     pub printing_stands : Stands b t g p im
     printing_stands = l.stands
 
-    pub printing_done : {r : Bool} → r ≡ is_done b p.rest → r ≡ true → Prints (UpTo p) im (length (output_of b)) (end_from t g b first im₀)
-    printing_done e h =
-        let q = sym e ∙ h in
+    pub printing_done : is_done b p.rest ≡ true → (p.done ≡ length (output_of b)) × (standing p.rest im ≡ end_from t g b first im₀)
+    printing_done q =
         let none = ap length (l.stands.left ∙ done_nothing t g b p.rest im q) in (
           omega (arith, none, length-drop p.done (output_of b), l.stands.inside),
           sym (l.same ∙ done_end t g b p.rest im q),
         )
 
-    module _ {w : Printed} {q : Progress} (e : w ≡ UpTo q) (after : Images) (n : WritesPart b t g p im w after) where
-      further : Later b t g p im q after
-      further = rw e at n
-
+    module _ {q : Progress} (after : Images) (further : Later b t g p im q after) where
       pub printing_next : Printing q after
       printing_next = record { stands = further.stands; same = l.same ∙ further.same }
 
@@ -121,6 +112,7 @@ module _ (b : List ℕ) (t : Tree) (g : Grants) (first : Rest) (im₀ : Images) 
       printing_less = further.less
 
 -- all of it is written
-pub printed_all : (w : Printed) (im : Images) (text : List ℕ) (s : Standing) → Prints w im (length text) s → WritesAll w text
-printed_all (UpTo p) im text s h = h.0
-printed_all Failed im text s h = tt
+pub printed_all : {E : Type 0} (w : Result Progress E) (im : Images) (text : List ℕ) (s : Standing) → Prints w im (length text) s
+    → WritesAll w text
+printed_all (Ok p) im text s h = h.0
+printed_all (Err x) im text s h = tt

@@ -2,7 +2,8 @@
 // line an event.
 #![tactic(auto)]
 
-ghost use Rattle.std.specs.Prelude.{◌≡◌, false, ◌+◌, ◌*◌, ◌≤◌, length, take, replicate};
+ghost use Rattle.register_image.specs.definitions.LentMut.{tree_at, images_at, Same};
+ghost use Rattle.std.specs.Prelude.{◌≡◌, false, ◌+◌, ◌*◌, ◌≤◌, length, take, replicate, IfOk};
 ghost use Rattle.rack.specs.definitions.Table.{tree_of};
 ghost use Rattle.rack.specs.definitions.Tree.{bridge_count, device_count};
 ghost use Rattle.rack.specs.definitions.Refusal.{rack_refusal};
@@ -18,12 +19,17 @@ ghost use Rattle.rackrun.specs.definitions.Run.{run_end, Prints, PrintsPiece};
 ghost use Rattle.rackrun.specs.definitions.Written.{IsNext, Stands, Writes, WritesPart, WritesAll};
 
 use file_load::load_file;
-use file_record::Loaded;
+use file_record::{Loaded, Refused};
 use print_output::Rest;
 use print_output::left::{first_rest, is_done};
 use print_output::part::put_part;
+use rack::Range;
+use rack::grow::no_table;
 use rack::table::{Table, bridges_below, count_of};
+use register_image::RegistersMut;
+use seat::grow::no_grants;
 use seat::table::GrantTable;
+use std::io;
 use std::io::{Lock, Print, Read, StdinLock, Stdout};
 
 // How many bytes of a file's output are written, and what is left of it.
@@ -31,13 +37,6 @@ use std::io::{Lock, Print, Read, StdinLock, Stdout};
 struct Progress {
     done: usize,
     rest: Rest,
-}
-
-// How far it is written, or that it could not be.
-#[derive(Clone, Copy)]
-enum Printed {
-    UpTo(Progress),
-    Failed,
 }
 
 // Writes the next n bytes of a file's output, of which `done` are written; `rest` is left then. It takes the file so that its contract can
@@ -49,17 +48,15 @@ fn write_next(
     bytes: &[u8],
     n: usize,
     rest: Rest,
-) -> Printed
+) -> io::Result<Progress>
     requires { (n ≤ length bytes.now) × IsNext (output_of file.now) done (take n bytes.now) × (done + n ≤ 4294967296) }
     ensures { Writes result (done + n) rest }
 {
-    if output.write_all(&bytes[..n]).is_ok() {
-        return Printed::UpTo(Progress {
-            done: done + n,
-            rest,
-        });
-    }
-    Printed::Failed
+    output.write_all(&bytes[..n])?;
+    Ok(Progress {
+        done: done + n,
+        rest,
+    })
 }
 
 // Room for a part of the output.
@@ -73,67 +70,75 @@ fn part_room() -> [u8; 65536]
 fn print_part(
     output: &Stdout,
     file: &[u8],
-    table: &Table,
+    registers: &mut RegistersMut,
     grants: &GrantTable,
-    bridges: &mut [u8],
-    devices: &mut [u8],
     p: Progress,
-) -> Printed
-    requires { Stands file.now (tree_of table.now) (grants_of grants.now) p (images bridges.old devices.old) × (is_done file.now p.rest ≡ false) }
-    ensures prints_piece { PrintsPiece result (images bridges.new devices.new) p.done (piece_of (tree_of table.now) (grants_of grants.now) file.now 65536 p.rest (images bridges.old devices.old)) }
-    ensures writes_part { WritesPart file.now (tree_of table.now) (grants_of grants.now) p (images bridges.old devices.old) result (images bridges.new devices.new) }
+) -> io::Result<Progress>
+    requires { Stands file.now (tree_at registers.old) (grants_of grants.now) p (images_at registers.old) × (is_done file.now p.rest ≡ false) }
+    ensures prints_piece { PrintsPiece result (images_at registers.new) p.done (piece_of (tree_at registers.old) (grants_of grants.now) file.now 65536 p.rest (images_at registers.old)) }
+    ensures writes_part { WritesPart file.now (tree_at registers.old) (grants_of grants.now) p (images_at registers.old) result (images_at registers.new) }
+    ensures same { Same registers.old registers.new }
 {
     let mut space = part_room();
     let out: &mut [u8] = &mut space;
-    let rest = p.rest;
-    let put = put_part(file, table, grants, bridges, devices, rest, out);
-    let next = put.rest;
-    write_next(output, file, p.done, out, put.len, next)
+    let put = put_part(file, registers, grants, p.rest, out);
+    write_next(output, file, p.done, out, put.len, put.rest)
 }
 
 // All of what is left, part by part.
 fn print_rest(
     output: &Stdout,
     file: &[u8],
-    table: &Table,
+    registers: &mut RegistersMut,
     grants: &GrantTable,
-    bridges: &mut [u8],
-    devices: &mut [u8],
     first: Rest,
-) -> Printed
-    requires { Stands file.now (tree_of table.now) (grants_of grants.now) (record { done = 0; rest = first }) (images bridges.old devices.old) }
-    ensures { Prints result (images bridges.new devices.new) (length (output_of file.now)) (end_from (tree_of table.now) (grants_of grants.now) file.now first (images bridges.old devices.old)) }
+) -> io::Result<Progress>
+    requires { Stands file.now (tree_at registers.old) (grants_of grants.now) (record { done = 0; rest = first }) (images_at registers.old) }
+    ensures leaves { Prints result (images_at registers.new) (length (output_of file.now)) (end_from (tree_at registers.old) (grants_of grants.now) file.now first (images_at registers.old)) }
+    ensures same { Same registers.old registers.new }
 {
     let mut p = Progress {
         done: 0,
         rest: first,
     };
-    loop {
-        let rest = p.rest;
-        if is_done(file, rest) {
-            return Printed::UpTo(p);
-        }
-        let Printed::UpTo(on) = print_part(output, file, table, grants, bridges, devices, p) else {
-            return Printed::Failed;
-        };
-        p = on;
+    while !is_done(file, p.rest) {
+        p = print_part(output, file, registers, grants, p)?;
     }
+    Ok(p)
 }
 
 // The whole output of a file that was loaded, refused or not; both images are as long as its rack's registers, and zero.
 fn print_loaded(
     output: &Stdout,
     file: &[u8],
-    l: Loaded,
+    loaded: Result<Loaded, Refused>,
     bridges: &mut [u8],
     devices: &mut [u8],
-) -> Printed
-    requires { Loads l (file_in file.now) × (l.refusal ≡ 0 → images bridges.old devices.old ≡ blank (tree_of l.table)) }
+) -> io::Result<Progress>
+    requires { Loads loaded (file_in file.now) × IfOk loaded (λ l. images bridges.old devices.old ≡ blank (tree_of l.table)) }
     ensures { Prints result (images bridges.new devices.new) (length (output_of file.now)) (run_end file.now (images bridges.old devices.old)) }
 {
-    let grants = l.grants;
-    let first = first_rest(file, l, bridges, devices);
-    print_rest(output, file, &l.table, &grants, bridges, devices, first)
+    let first = first_rest(file, loaded, bridges, devices);
+    match loaded {
+        Ok(l) => {
+            let mut registers = RegistersMut {
+                table: &l.table,
+                bridges,
+                devices,
+            };
+            print_rest(output, file, &mut registers, &l.grants, first)
+        }
+        Err(_) => {
+            // A refused file has no rack, and nothing of it is run.
+            let table = no_table(Range { first: 1, last: 0 });
+            let mut registers = RegistersMut {
+                table: &table,
+                bridges,
+                devices,
+            };
+            print_rest(output, file, &mut registers, &no_grants(), first)
+        }
+    }
 }
 
 // How many bytes the registers of a rack's bridges take, and those of its devices.
@@ -157,17 +162,18 @@ fn room_in(table: &Table) -> Room
 }
 
 // Of the rack that was loaded; a refused file has none.
-fn room_of(l: Loaded) -> Room
-    requires { l.refusal ≡ 0 → rack_refusal (tree_of l.table) ≡ 0 }
-    ensures { (result.bridges ≤ 2048) × (result.devices ≤ 4096) × (l.refusal ≡ 0 → (result.bridges ≡ 64 * bridge_count (tree_of l.table)) × (result.devices ≡ 64 * device_count (tree_of l.table))) }
+fn room_of(loaded: Result<Loaded, Refused>) -> Room
+    requires { IfOk loaded (λ l. rack_refusal (tree_of l.table) ≡ 0) }
+    ensures fits { (result.bridges ≤ 2048) × (result.devices ≤ 4096) }
+    ensures exact { IfOk loaded (λ l. (result.bridges ≡ 64 * bridge_count (tree_of l.table)) × (result.devices ≡ 64 * device_count (tree_of l.table))) }
 {
-    if l.refusal != 0 {
-        return Room {
+    match loaded {
+        Ok(l) => room_in(&l.table),
+        Err(_) => Room {
             bridges: 0,
             devices: 0,
-        };
+        },
     }
-    room_in(&l.table)
 }
 
 // Room for the registers of 32 bridges, and of 64 devices.
@@ -184,16 +190,16 @@ fn devices_image() -> [u8; 4096]
 }
 
 // Checks a file and prints its output.
-fn run(output: &Stdout, file: &[u8]) -> Printed
+fn run(output: &Stdout, file: &[u8]) -> io::Result<Progress>
     ensures { WritesAll result (output_of file.now) }
 {
-    let l = load_file(file);
-    let room = room_of(l);
+    let loaded = load_file(file);
+    let room = room_of(loaded);
     let b = room.bridges;
     let d = room.devices;
     let mut bridges = bridges_image();
     let mut devices = devices_image();
-    print_loaded(output, file, l, &mut bridges[..b], &mut devices[..d])
+    print_loaded(output, file, loaded, &mut bridges[..b], &mut devices[..d])
 }
 
 // One byte more than the longest file, so that an overlong one is seen.
@@ -203,30 +209,19 @@ fn input_room() -> [u8; 65537]
     [0; 65537]
 }
 
-// Standard input: how many bytes it has, or that it could not be read.
-#[derive(Clone, Copy)]
-enum Input {
-    Read(usize),
-    Failed,
-}
-
-// Reads until the buffer is full or the input ends.
-fn read_input(input: &mut StdinLock, buffer: &mut [u8]) -> Input
+// Reads until the buffer is full or the input ends; a read may give less than there is room for.
+fn read_input(input: &mut StdinLock, buffer: &mut [u8]) -> io::Result<usize>
     ensures { Within result buffer.new }
 {
     let mut done: usize = 0;
     while done < buffer.len() {
-        match input.read(&mut buffer[done..]) {
-            Ok(more) => {
-                if more == 0 {
-                    return Input::Read(done);
-                }
-                done += more;
-            }
-            Err(_) => return Input::Failed,
+        let more = input.read(&mut buffer[done..])?;
+        if more == 0 {
+            break;
         }
+        done += more;
     }
-    Input::Read(done)
+    Ok(done)
 }
 
 // Words for standard error; nobody is left to be told where they cannot be written.
@@ -237,12 +232,11 @@ fn say(rt: &HostRuntime, words: &[u8]) {
 fn main(rt: HostRuntime) {
     let mut input = rt.stdin().lock();
     let mut buffer = input_room();
-    let Input::Read(n) = read_input(&mut input, &mut buffer) else {
+    let Ok(n) = read_input(&mut input, &mut buffer) else {
         say(&rt, b"rackrun: the input could not be read\n");
         return;
     };
-    let Printed::UpTo(_) = run(&rt.stdout(), &buffer[..n]) else {
+    if run(&rt.stdout(), &buffer[..n]).is_err() {
         say(&rt, b"rackrun: the output could not be written\n");
-        return;
-    };
+    }
 }

@@ -11,15 +11,10 @@ use register_header::{Side, StatusBit};
 fn status_at(kind: Kind, side: Side) -> usize
     ensures { result ≡ status_at kind side }
 {
-    match side {
-        Side::Primary => STATUS + 1,
-        Side::Secondary => {
-            if rack::is_bridge(kind) {
-                SEC_STATUS + 1
-            } else {
-                STATUS + 1
-            }
-        }
+    if side == Side::Secondary && kind.is_bridge() {
+        SEC_STATUS + 1
+    } else {
+        STATUS + 1
     }
 }
 
@@ -36,9 +31,8 @@ fn status_mask(bit: StatusBit) -> u8
 pub fn set_status(part: &mut [u8], n: Node, side: Side, bit: StatusBit)
     ensures { part.new ≡ set_status n part.old side bit }
 {
-    let kind = n.kind;
-    let at = status_at(kind, side);
+    let at = status_at(n.kind, side);
     if at < part.len() {
-        part[at] = part[at] | status_mask(bit);
+        part[at] |= status_mask(bit);
     }
 }

@@ -1,26 +1,40 @@
 -- The masks and the reset value of a byte, from what the code has asked for.
-use mathlib.Core.Path.{◌≡◌, sym, ap, ◌∙◌}
+use mathlib.Core.Path.{◌≡◌, sym, ◌∙◌}
 use mathlib.Core.Bool.{Bool, true, false, not, and-eq-true_iff}
 use mathlib.Core.Logic.{◌≢◌}
-use Prim.Native.Nat.{ℕ, ◌+◌, ◌-◌, ◌/◌, ◌%◌, ◌^◌, ◌≤◌, ◌<◌}
+use mathlib.Core.List.{List}
+use Prim.Native.Nat.{ℕ, zero, suc, ◌+◌, ◌-◌, ◌%◌, ◌^◌, ◌≤◌, ◌<◌}
 use native.Mathlib.Omega.{arith}
 use borrow.Author.Tests.{ltb-true, ne_eqb, lt-ltb, le-ltb}
 use lib.Dec.{leb}
 use lib.ListN.{get_or}
+use Rattle.std.specs.Int.{w32, to_le_bytes}
 use Rattle.rack.specs.declared.Kind.{Kind}
 use Rattle.rack.specs.declared.Node.{Node}
 use Rattle.rack.specs.declared.Region.{Region}
-use Rattle.rack.specs.definitions.Node.{is_bridge, region_in}
+use Rattle.rack.specs.definitions.Node.{is_bridge}
 use Rattle.register_header.specs.definitions.PciRegs.{BASE_ADDRESS}
 use Rattle.register_header.specs.definitions.Tables.{write_table, reset_table}
 use Rattle.register_header.specs.definitions.Mask.{region_byte, in_region, region_at, byte_of, region_write, region_reset, write_mask, ids, reset_byte}
 
+-- byte k of a dword, as std has it
+byte_is : (x k : ℕ) {l : List ℕ} → k < 4 → l ≡ to_le_bytes w32 x → get_or l k 0 ≡ byte_of x k
+byte_is x zero h e = rw e (omega arith)
+byte_is x (suc zero) h e = rw e
+byte_is x (suc (suc zero)) h e = rw e
+byte_is x (suc (suc (suc zero))) h e = rw e
+byte_is x (suc (suc (suc (suc k)))) h e = absurd (omega arith)
+
 -- byte k of a region
 module _ (kind k : ℕ) where
   module _ (e : ℕ) where
-    pub write_low : {h r : ℕ} → kind ≢ 0 → k < 4 → h ≡ 2 ^ 32 - 2 ^ e → r ≡ byte_of h k → r ≡ region_write kind e k
+    pub write_zero : kind ≡ 0 → 0 ≡ region_write kind e k
     unfolding region_write
-    write_low ne l eh er = rw (ne_eqb kind 0 ne, lt-ltb k 4 l, ← eh) er
+    write_zero q = rw q
+
+    pub write_low : {h : ℕ} {l : List ℕ} → kind ≢ 0 → k < 4 → h ≡ 2 ^ 32 - 2 ^ e → l ≡ to_le_bytes w32 h → get_or l k 0 ≡ region_write kind e k
+    unfolding region_write
+    write_low ne l eh el = rw (ne_eqb kind 0 ne, lt-ltb k 4 l, ← eh) (byte_is _ k l el)
 
     pub write_high : 4 ≤ k → kind ≡ 3 → 255 ≡ region_write kind e k
     unfolding region_write
@@ -30,19 +44,6 @@ module _ (kind k : ℕ) where
     unfolding region_write
     write_none ne l q = rw (ne_eqb kind 0 ne, le-ltb k 4 l, ne_eqb kind 3 q)
 
-  module _ (z : k ≡ 0) where
-    pub reset_io : kind ≡ 1 → 1 ≡ region_reset kind k
-    unfolding region_reset
-    reset_io q = rw (z, q)
-
-    pub reset_wide : kind ≡ 3 → 4 ≡ region_reset kind k
-    unfolding region_reset
-    reset_wide q = rw (z, q)
-
-    pub reset_plain : kind ≢ 1 → kind ≢ 3 → 0 ≡ region_reset kind k
-    unfolding region_reset
-    reset_plain x y = rw (z, ne_eqb kind 1 x, ne_eqb kind 3 y)
-
 -- the regions end below 28h
 pub region_below : (kind : Kind) (at : ℕ) {b : Bool} → b ≡ region_byte kind at → b ≡ true → at < BASE_ADDRESS + 24
 region_below kind at eb q =
@@ -50,13 +51,9 @@ region_below kind at eb q =
     ((and-eq-true_iff (leb BASE_ADDRESS at) _).0 ((and-eq-true_iff (not (is_bridge kind)) _).0 (sym eb ∙ q)).1).1
 
 module _ (n : Node) (at : ℕ) where
-  -- below the first region there is no other
-  pub region_first : at < BASE_ADDRESS → region_in n 0 ≡ region_at n at
-  region_first l = let low : 0 ≡ (at - BASE_ADDRESS) / 8 = omega arith in ap (region_in n) low
-
-  pub reset_ids : {i r : ℕ} → at < 4 → i ≡ ids n → r ≡ byte_of i at → r ≡ reset_byte n at
+  pub reset_ids : {i : ℕ} {l : List ℕ} → at < 4 → i ≡ ids n → l ≡ to_le_bytes w32 i → get_or l at 0 ≡ reset_byte n at
   unfolding reset_byte
-  reset_ids l ei er = rw (lt-ltb at 4 l, ← ei) er
+  reset_ids h ei el = rw (lt-ltb at 4 h, ← ei) (byte_is _ at h el)
 
   module _ {b : Bool} (eb : b ≡ in_region n at) {x : ℕ} where
     module _ (q : b ≡ true) {r : Region} (er : r ≡ region_at n at) where

@@ -14,12 +14,7 @@ pub fn options_of(kind: Kind) -> Options
             prefetchable64: true,
             vga16: true,
         },
-        Kind::OlderBridge => Options {
-            io32: false,
-            prefetchable64: false,
-            vga16: false,
-        },
-        Kind::Device => Options {
+        Kind::OlderBridge | Kind::Device => Options {
             io32: false,
             prefetchable64: false,
             vga16: false,

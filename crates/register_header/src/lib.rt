@@ -14,7 +14,7 @@ pub mod tables;
 
 // What a bridge can do beyond the least that a bridge must: an I/O window above 64 KiB, a prefetchable window above 4 GiB, and VGA
 // I/O decoded by 16 bits.
-#[derive(Clone, Copy)]
+#[derive(Clone, Copy, PartialEq, Eq)]
 pub struct Options {
     pub io32: bool,
     pub prefetchable64: bool,
@@ -22,14 +22,14 @@ pub struct Options {
 }
 
 // A side of a bridge: its primary bus, which it sits on, or its secondary bus, which it holds.
-#[derive(Clone, Copy)]
+#[derive(Clone, Copy, PartialEq, Eq)]
 pub enum Side {
     Primary,
     Secondary,
 }
 
 // Bits 11, 12 and 13 of a status register.
-#[derive(Clone, Copy)]
+#[derive(Clone, Copy, PartialEq, Eq)]
 pub enum StatusBit {
     SignaledTargetAbort,
     ReceivedTargetAbort,

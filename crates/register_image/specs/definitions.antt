@@ -2,3 +2,5 @@ pub mod Image
 pub mod Fixed
 pub mod Reset
 pub mod Sizing
+pub mod Lent
+pub mod LentMut

@@ -1,11 +1,11 @@
 // Refusals 11 and 12: the lengths of the images, and bits that no write can have changed.
+ghost use Rattle.register_image.specs.definitions.Lent.{tree_in, images_in};
 ghost use Rattle.std.specs.Prelude.{◌≡◌};
-ghost use Rattle.rack.specs.definitions.Table.{tree_of};
-ghost use Rattle.register_image.specs.definitions.Image.{images};
 ghost use Rattle.register_image.specs.definitions.Fixed.{lengths_wrong, value_wrong, part_wrong, node_wrong, fixed_wrong};
 
+use crate::Registers;
 use rack::Node;
-use rack::table::{Table, count_of};
+use rack::table::count_of;
 
 // Whether a fixed bit of the byte differs from its reset value.
 fn value_wrong(n: Node, at: usize, value: u8) -> bool
@@ -19,45 +19,29 @@ fn value_wrong(n: Node, at: usize, value: u8) -> bool
 pub fn part_wrong(n: Node, part: &[u8]) -> bool
     ensures { result ≡ part_wrong n part.now }
 {
-    let mut at: usize = 0;
-    while at < 64 {
-        if value_wrong(n, at, register_header::register::byte_at(part, at)) {
-            return true;
-        }
-        at += 1;
+    (0..64).any(|at| value_wrong(n, at, register_header::register::byte_at(part, at)))
+}
+
+impl Registers<'_, '_> {
+    fn node_wrong(&self, i: u8) -> bool
+        ensures { result ≡ node_wrong (tree_in self.now) (images_in self.now) i }
+    {
+        part_wrong(rack::table::node_at(self.table, i as usize), self.view(i))
     }
-    false
-}
 
-fn node_wrong<'a>(table: &Table, bridges: &'a [u8], devices: &'a [u8], i: u8) -> bool
-    ensures { result ≡ node_wrong (tree_of table.now) (images bridges.now devices.now) i }
-{
-    part_wrong(
-        rack::table::node_at(table, i as usize),
-        crate::image::view(table, bridges, devices, i),
-    )
-}
-
-// Whether one of any node does.
-pub fn fixed_wrong<'a>(table: &Table, bridges: &'a [u8], devices: &'a [u8]) -> bool
-    ensures { result ≡ fixed_wrong (tree_of table.now) (images bridges.now devices.now) }
-{
-    let count = count_of(table);
-    let mut i: u8 = 0;
-    while i < count {
-        if node_wrong(table, bridges, devices, i) {
-            return true;
-        }
-        i += 1;
+    // Whether one of any node does.
+    pub fn fixed_wrong(&self) -> bool
+        ensures { result ≡ fixed_wrong (tree_in self.now) (images_in self.now) }
+    {
+        (0..count_of(self.table)).any(|i| self.node_wrong(i))
     }
-    false
-}
 
-pub fn lengths_wrong<'a>(table: &Table, bridges: &'a [u8], devices: &'a [u8]) -> bool
-    ensures { result ≡ lengths_wrong (tree_of table.now) (images bridges.now devices.now) }
-{
-    let count = count_of(table) as usize;
-    let b = rack::table::bridges_below(table, count);
-    let d = count - b;
-    !((bridges.len() == 64 * b) & (devices.len() == 64 * d))
+    pub fn lengths_wrong(&self) -> bool
+        ensures { result ≡ lengths_wrong (tree_in self.now) (images_in self.now) }
+    {
+        let count = count_of(self.table) as usize;
+        let b = rack::table::bridges_below(self.table, count);
+        let d = count - b;
+        !((self.bridges.len() == 64 * b) & (self.devices.len() == 64 * d))
+    }
 }

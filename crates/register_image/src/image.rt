@@ -1,11 +1,13 @@
 // The part of a node in whichever of the two lent images holds it: the register view, and writes that change only that part.
-ghost use Rattle.std.specs.Prelude.{◌≡◌};
-ghost use Rattle.rack.specs.definitions.Table.{tree_of};
+ghost use Rattle.register_image.specs.definitions.LentMut.{tree_at, images_at, Same};
+ghost use Rattle.register_image.specs.definitions.Lent.{tree_in, images_in};
+ghost use Rattle.std.specs.Prelude.{◌≡◌, ℕ, List, length};
 ghost use Rattle.register_header.specs.definitions.Register.{write_register, set_status};
-ghost use Rattle.register_image.specs.definitions.Image.{images, node_part, on_part, view, write_node, status_node};
+ghost use Rattle.register_image.specs.definitions.Image.{node_part, in_part, on_part, view, in_node, on_node, write_node, status_node};
 
+use crate::{Registers, RegistersMut};
 use rack::Node;
-use rack::table::{Table, count_of, node_at, place_at};
+use rack::table::{count_of, node_at, place_at};
 use register_header::{Side, StatusBit};
 
 // The 64 bytes at a place of an image; none past the last.
@@ -18,87 +20,81 @@ fn node_part(image: &[u8], place: usize) -> &[u8]
     &image[0..0]
 }
 
-// The register view: the part of a node; of a missing node an empty part.
-pub fn view<'a>(table: &Table, bridges: &'a [u8], devices: &'a [u8], i: u8) -> &'a [u8]
-    ensures { result.now ≡ view (tree_of table.now) (images bridges.now devices.now) i }
-{
-    if i < count_of(table) {
-        let n = node_at(table, i as usize);
-        let place = place_at(table, i as usize) as usize;
-        let kind = n.kind;
-        if rack::is_bridge(kind) {
-            return node_part(bridges, place);
+impl<'a> Registers<'_, 'a> {
+    // The register view: the part of a node; of a missing node an empty part.
+    pub fn view(&self, i: u8) -> &'a [u8]
+        ensures { result.now ≡ view (tree_in self.now) (images_in self.now) i }
+    {
+        if i < count_of(self.table) {
+            let n = node_at(self.table, i as usize);
+            let place = place_at(self.table, i as usize) as usize;
+            if n.kind.is_bridge() {
+                return node_part(self.bridges, place);
+            }
+            return node_part(self.devices, place);
         }
-        return node_part(devices, place);
+        &self.bridges[0..0]
     }
-    &bridges[0..0]
 }
 
-fn write_part(image: &mut [u8], place: usize, n: Node, register: u8, enables: u8, put: u32)
-    ensures { image.new ≡ on_part image.old place (λ part. write_register n part register enables put) }
+// What a closure answers to the part at a place of an image, of a node n, and what it makes of it; past the last part it is not called.
+fn change_part<R, F: FnOnce(Node, &mut [u8]) -> R>(
+    image: &mut [u8],
+    place: usize,
+    n: Node,
+    change: F,
+) -> Option<R>
+    requires { (m : Node) (part : _) → length part.now ≡ 64 → F.pre change m part }
+    ensures answers { (h : Node → List ℕ → R) → ((m : Node) (part after : _) (r : R) → length part.now ≡ 64 → F.post change m part r after → r ≡ h m part.now) → result ≡ in_part image.old place (h n) }
+    ensures leaves { (g : Node → List ℕ → List ℕ) → ((m : Node) (part after : _) (r : R) → length part.now ≡ 64 → F.post change m part r after → after.now ≡ g m part.now) → image.new ≡ on_part image.old place (g n) }
 {
     if place < image.len() / 64 {
-        register_header::register::write_register(
-            &mut image[64 * place..64 * place + 64],
-            n,
-            register,
-            enables,
-            put,
+        return Some(change(n, &mut image[64 * place..64 * place + 64]));
+    }
+    None
+}
+
+impl RegistersMut<'_> {
+    // What a closure answers to the part of one node, and what it makes of it; of a missing node it is not called.
+    pub(crate) fn change<R, F: FnOnce(Node, &mut [u8]) -> R>(
+        &mut self,
+        i: u8,
+        change: F,
+    ) -> Option<R>
+        requires { (m : Node) (part : _) → length part.now ≡ 64 → F.pre change m part }
+        ensures answers { (h : Node → List ℕ → R) → ((m : Node) (part after : _) (r : R) → length part.now ≡ 64 → F.post change m part r after → r ≡ h m part.now) → result ≡ in_node (tree_at self.old) (images_at self.old) i (h ((tree_at self.old).node i)) }
+        ensures leaves { (g : Node → List ℕ → List ℕ) → ((m : Node) (part after : _) (r : R) → length part.now ≡ 64 → F.post change m part r after → after.now ≡ g m part.now) → images_at self.new ≡ on_node (tree_at self.old) (images_at self.old) i (g ((tree_at self.old).node i)) }
+        ensures same { Same self.old self.new }
+    {
+        if i < count_of(self.table) {
+            let n = node_at(self.table, i as usize);
+            let place = place_at(self.table, i as usize) as usize;
+            if n.kind.is_bridge() {
+                return change_part(self.bridges, place, n, change);
+            }
+            return change_part(self.devices, place, n, change);
+        }
+        None
+    }
+
+    // A register write of one node.
+    pub fn write_node(&mut self, i: u8, register: u8, enables: u8, put: u32)
+        ensures leaves { images_at self.new ≡ write_node (tree_at self.old) (images_at self.old) i register enables put }
+        ensures same { Same self.old self.new }
+    {
+        self.change(i, |n, part| {
+            register_header::register::write_register(part, n, register, enables, put)
+        });
+    }
+
+    // A status bit of one node set.
+    pub fn status_node(&mut self, i: u8, side: Side, bit: StatusBit)
+        ensures leaves { images_at self.new ≡ status_node (tree_at self.old) (images_at self.old) i side bit }
+        ensures same { Same self.old self.new }
+    {
+        self.change(
+            i,
+            |n, part| register_access::status::set_status(part, n, side, bit),
         );
-    }
-}
-
-// A register write of one node.
-pub fn write_node(
-    table: &Table,
-    bridges: &mut [u8],
-    devices: &mut [u8],
-    i: u8,
-    register: u8,
-    enables: u8,
-    put: u32,
-)
-    ensures { images bridges.new devices.new ≡ write_node (tree_of table.now) (images bridges.old devices.old) i register enables put }
-{
-    if i < count_of(table) {
-        let n = node_at(table, i as usize);
-        let place = place_at(table, i as usize) as usize;
-        let kind = n.kind;
-        if rack::is_bridge(kind) {
-            write_part(bridges, place, n, register, enables, put);
-        } else {
-            write_part(devices, place, n, register, enables, put);
-        }
-    }
-}
-
-fn status_part(image: &mut [u8], place: usize, n: Node, side: Side, bit: StatusBit)
-    ensures { image.new ≡ on_part image.old place (λ part. set_status n part side bit) }
-{
-    if place < image.len() / 64 {
-        register_access::status::set_status(&mut image[64 * place..64 * place + 64], n, side, bit);
-    }
-}
-
-// A status bit of one node set.
-pub fn status_node(
-    table: &Table,
-    bridges: &mut [u8],
-    devices: &mut [u8],
-    i: u8,
-    side: Side,
-    bit: StatusBit,
-)
-    ensures { images bridges.new devices.new ≡ status_node (tree_of table.now) (images bridges.old devices.old) i side bit }
-{
-    if i < count_of(table) {
-        let n = node_at(table, i as usize);
-        let place = place_at(table, i as usize) as usize;
-        let kind = n.kind;
-        if rack::is_bridge(kind) {
-            status_part(bridges, place, n, side, bit);
-        } else {
-            status_part(devices, place, n, side, bit);
-        }
     }
 }

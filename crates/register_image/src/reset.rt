@@ -1,70 +1,50 @@
 // Both images filled with their reset values.
+ghost use Rattle.register_image.specs.definitions.LentMut.{tree_at, images_at, Same};
 ghost use Rattle.std.specs.Prelude.{◌≡◌, length};
-ghost use Rattle.rack.specs.definitions.Table.{tree_of};
-ghost use Rattle.register_image.specs.definitions.Image.{images, on_part};
-ghost use Rattle.register_image.specs.definitions.Reset.{reset_part, is_changed, reset_node, reset_images};
+ghost use Rattle.register_image.specs.definitions.Reset.{reset_part, byte_changed, is_changed, reset_node, reset_images};
 
+use crate::RegistersMut;
 use rack::Node;
-use rack::table::{Table, count_of};
+use rack::table::count_of;
 
 fn reset_part(part: &mut [u8], n: Node)
     requires { length part.old ≡ 64 }
     ensures { part.new ≡ reset_part n }
 {
-    let mut at: usize = 0;
-    while at < 64 {
+    for at in 0..64 {
         part[at] = register_header::mask::reset_byte(n, at);
-        at += 1;
     }
+}
+
+fn byte_changed(n: Node, part: &[u8], at: usize) -> bool
+    ensures { result ≡ byte_changed n part.now at }
+{
+    register_header::register::byte_at(part, at) != register_header::mask::reset_byte(n, at)
 }
 
 // Whether a node's registers differ from reset.
 pub fn is_changed(n: Node, part: &[u8]) -> bool
     ensures { result ≡ is_changed n part.now }
 {
-    let mut at: usize = 0;
-    while at < 64 {
-        let value = register_header::register::byte_at(part, at);
-        if value != register_header::mask::reset_byte(n, at) {
-            return true;
+    (0..64).any(|at| byte_changed(n, part, at))
+}
+
+impl RegistersMut<'_> {
+    // One node at reset.
+    pub fn reset_node(&mut self, i: u8)
+        ensures leaves { images_at self.new ≡ reset_node (tree_at self.old) (images_at self.old) i }
+        ensures same { Same self.old self.new }
+    {
+        self.change(i, |n, part| reset_part(part, n));
+    }
+
+    pub fn reset_images(&mut self)
+        ensures leaves { images_at self.new ≡ reset_images (tree_at self.old) (images_at self.old) }
+        ensures same { Same self.old self.new }
+    {
+        let count = count_of(self.table);
+        for i in 0..count {
+            self.reset_node(i);
         }
-        at += 1;
-    }
-    false
-}
-
-fn reset_at(image: &mut [u8], place: usize, n: Node)
-    ensures { image.new ≡ on_part image.old place (λ part. reset_part n) }
-{
-    if place < image.len() / 64 {
-        reset_part(&mut image[64 * place..64 * place + 64], n);
-    }
-}
-
-// One node at reset.
-pub fn reset_node(table: &Table, bridges: &mut [u8], devices: &mut [u8], i: u8)
-    ensures { images bridges.new devices.new ≡ reset_node (tree_of table.now) (images bridges.old devices.old) i }
-{
-    let count = count_of(table);
-    if i < count {
-        let n = rack::table::node_at(table, i as usize);
-        let place = rack::table::place_at(table, i as usize) as usize;
-        let kind = n.kind;
-        if rack::is_bridge(kind) {
-            reset_at(bridges, place, n);
-        } else {
-            reset_at(devices, place, n);
-        }
-    }
-}
-
-pub fn reset_images(table: &Table, bridges: &mut [u8], devices: &mut [u8])
-    ensures { images bridges.new devices.new ≡ reset_images (tree_of table.now) (images bridges.old devices.old) }
-{
-    let count = count_of(table);
-    let mut i: u8 = 0;
-    while i < count {
-        reset_node(table, bridges, devices, i);
-        i += 1;
     }
 }

@@ -6,17 +6,14 @@ use Prim.Native.Nat.{ℕ, ◌+◌, ◌-◌, ◌<◌}
 use native.Mathlib.Omega.{arith}
 use lib.ListN.{get_or}
 use borrow.Author.Tests.{eq-eqb, ne_eqb}
-use Rattle.rack.specs.definitions.Tree.{Tree, parent_of}
+use Rattle.rack.specs.definitions.Tree.{Tree}
 use Rattle.register_header.specs.definitions.PciRegs.{COMMAND, COMMAND_MASTER}
-use Rattle.register_header.specs.declared.Side.TheVariants.{Primary}
-use Rattle.register_header.specs.declared.StatusBit.TheVariants.{ReceivedTargetAbort}
-use Rattle.register_image.specs.definitions.Image.{Images, Result, view, status_node, gives}
+use Rattle.register_image.specs.definitions.Image.{Images, Result, view, gives}
 use Rattle.route_bus.specs.declared.Access.{Access}
 use types.Run.{OneOf}
 use denote.Enum.Declared as declared
 use Rattle.route_bus.specs.contracts.End as end
 use Rattle.route_bus.specs.declared.Outcome.{Outcome}
-use Rattle.route_bus.specs.declared.Outcome.TheVariants.{Target}
 use Rattle.route_bus.specs.declared.End.{End}
 use Rattle.route_bus.specs.declared.End.TheVariants.{Unclaimed, Silent}
 use Rattle.route_bus.specs.declared.Route.{Route}
@@ -26,7 +23,7 @@ use Rattle.route_bus.specs.definitions.End.{ends, if_unclaimed}
 use Rattle.route_bus.specs.definitions.Look.{look}
 use Rattle.route_bus.specs.definitions.Cross.{other_bus, turns_type0, crossed}
 use Rattle.route_bus.proofs.Ended.{others, not_unclaimed}
-use Rattle.route.specs.definitions.Route.{bus_step, bridge_step, possible, from, received, returned, driven, access}
+use Rattle.route.specs.definitions.Route.{bus_step, bridge_step, from, received, returned, driven, access}
 use Rattle.route.specs.laws.StepLaws.{bus_ends_left, bus_on, bus_spent, bridge_on, bus_le}
 
 module _ (t : Tree) (im : Images) (x : Access) (bus driver : ℕ) (type0 : Bool) (left : ℕ) {s : Sight} {v : Images}
@@ -60,16 +57,6 @@ pub few_crossed : (t : Tree) (im : Images) (x : Access) (bus driver : ℕ) (type
 few_crossed t im x bus driver type0 left e l =
     omega (arith, bus_le t x left im bus driver type0, ap (λ (o : Result Route). o.answer.crossings) e)
 
--- a route with the crossings that are possible
-pub from_possible : (t : Tree) (im : Images) (x : Access) (bus driver : ℕ) (type0 : Bool) {left : ℕ} {o : Result Route}
-    → left ≡ possible t bus → o ≡ bus_step (left + left + 1) t im x bus driver type0 → o ≡ from t im x bus driver type0
-from_possible t im x bus driver type0 e eo = eo ∙ ap (λ (k : ℕ). bus_step (k + k + 1) t im x bus driver type0) e
-
--- bit 12 of an initiator
-pub received_target : (t : Tree) (im : Images) (i : ℕ) {o : Outcome} {v : Images} → o ≡ Target
-    → v ≡ status_node t im i Primary ReceivedTargetAbort → v ≡ received t im i o
-received_target t im i e ev = rw e ev
-
 -- what comes back to an initiator: nothing of an access that was claimed
 pub returned_other : (t : Tree) (im : Images) (i : ℕ) (e : End) → OneOf others (declared.tag_of end.the_type e)
     → im ≡ returned t im i e
@@ -80,14 +67,6 @@ pub returned_unclaimed : (t : Tree) (im : Images) (i : ℕ) (e : End) {holder : 
     → v ≡ received t im i o → v ≡ returned t im i e
 unfolding returned if_unclaimed
 returned_unclaimed t im i e q r = rw q r
-
--- a device's access, from the bus that it sits on and back to it
-pub device_driven : (t : Tree) (im : Images) (x : Access) (i : ℕ) {bus : ℕ} {r : Route} {v w : Images}
-    → bus ≡ parent_of t i → gives r v ≡ from t im x bus i false → w ≡ returned t v i r.end → gives r w ≡ driven t im x i
-device_driven t im x i {r = r} eb es ew =
-    ap (gives r) ew
-    ∙ ap (λ (k : Result Route). gives k.answer (returned t k.after i k.answer.end))
-    (es ∙ ap (λ (b : ℕ). from t im x b i false) eb)
 
 -- an access of the host, and of a device that drives or does not
 pub access_host : (t : Tree) (im : Images) (x : Access) (i : ℕ) {o : Result Route} → i ≡ 255 → o ≡ from t im x 255 255 false

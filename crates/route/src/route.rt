@@ -1,13 +1,15 @@
 // The way of an access: bus step and bridge step call each other, and the number of crossings still possible falls.
+ghost use Rattle.register_image.specs.definitions.LentMut.{tree_at, images_at, Same};
+ghost use Rattle.register_image.specs.definitions.Image.{gives};
 ghost use Rattle.std.specs.Prelude.{◌≡◌, ◌+◌, ◌<◌};
 ghost use Rattle.rack.specs.definitions.Table.{tree_of};
-ghost use Rattle.register_image.specs.definitions.Image.{images, result_of};
 ghost use Rattle.route.specs.definitions.Route.{bus_step, bridge_step, possible, from, configure, received, returned, driven, access};
 
 use rack::table::{Table, deepest, depth_at};
 use register_header::pci_regs::{COMMAND, COMMAND_MASTER};
 use register_header::register::bit_at;
 use register_header::{Side, StatusBit};
+use register_image::RegistersMut;
 use route_bridge::{byte_of, crossed_by, other_bus, turns_type0};
 use route_bus::look::look_on;
 use route_bus::{Access, End, Outcome, Route, Sight};
@@ -15,9 +17,7 @@ use route_bus::{Access, End, Outcome, Route, Sight};
 // What a bus answers, at most `left` crossings from it.
 #[cycle(bridge_step_bus_step)]
 fn bus_step(
-    table: &Table,
-    bridges: &mut [u8],
-    devices: &mut [u8],
+    registers: &mut RegistersMut,
     x: Access,
     bus: u8,
     driver: u8,
@@ -25,42 +25,30 @@ fn bus_step(
     left: usize,
 ) -> Route
     requires { left < 4096 }
-    ensures { result_of result bridges.new devices.new ≡ bus_step (left + left + 1) (tree_of table.now) (images bridges.old devices.old) x bus driver type0 }
+    ensures leaves { gives result (images_at registers.new) ≡ bus_step (left + left + 1) (tree_at registers.old) (images_at registers.old) x bus driver type0 }
+    ensures same { Same registers.old registers.new }
 {
-    let s = look_on(table, bridges, devices, x, bus, driver, type0);
-    match s {
+    match look_on(registers, x, bus, driver, type0) {
         Sight::Ends(end) => Route { crossings: 0, end },
-        Sight::Crosses(g) => {
-            if left == 0 {
-                Route {
-                    crossings: 0,
-                    end: End::Silent,
-                }
-            } else {
-                bridge_step(table, bridges, devices, x, bus, g, left - 1)
-            }
-        }
+        Sight::Crosses(_) if left == 0 => Route {
+            crossings: 0,
+            end: End::Silent,
+        },
+        Sight::Crosses(g) => bridge_step(registers, x, bus, g, left - 1),
     }
 }
 
 // What bridge g answers to what is driven on a bus beside it, at most `left` crossings from the other side.
 #[cycle(bridge_step_bus_step)]
-fn bridge_step(
-    table: &Table,
-    bridges: &mut [u8],
-    devices: &mut [u8],
-    x: Access,
-    bus: u8,
-    g: u8,
-    left: usize,
-) -> Route
+fn bridge_step(registers: &mut RegistersMut, x: Access, bus: u8, g: u8, left: usize) -> Route
     requires { left < 4096 }
-    ensures { result_of result bridges.new devices.new ≡ bridge_step (left + left + 2) (tree_of table.now) (images bridges.old devices.old) x bus g }
+    ensures leaves { gives result (images_at registers.new) ≡ bridge_step (left + left + 2) (tree_at registers.old) (images_at registers.old) x bus g }
+    ensures same { Same registers.old registers.new }
 {
-    let other = other_bus(table, bus, g);
-    let type0 = turns_type0(table, bridges, devices, x, bus, g);
-    let r = bus_step(table, bridges, devices, x, other, g, type0, left);
-    crossed_by(table, bridges, devices, x, bus, g, r)
+    let other = other_bus(registers.table, bus, g);
+    let type0 = turns_type0(&registers.lent(), x, bus, g);
+    let r = bus_step(registers, x, other, g, type0, left);
+    crossed_by(registers, x, bus, g, r)
 }
 
 // The crossings that are possible from a bus on.
@@ -70,87 +58,64 @@ fn possible_from(table: &Table, bus: u8) -> usize
     depth_at(table, bus) as usize + deepest(table) as usize
 }
 
-fn route_from(
-    table: &Table,
-    bridges: &mut [u8],
-    devices: &mut [u8],
-    x: Access,
-    bus: u8,
-    driver: u8,
-    type0: bool,
-) -> Route
-    ensures { result_of result bridges.new devices.new ≡ from (tree_of table.now) (images bridges.old devices.old) x bus driver type0 }
+fn route_from(registers: &mut RegistersMut, x: Access, bus: u8, driver: u8, type0: bool) -> Route
+    ensures leaves { gives result (images_at registers.new) ≡ from (tree_at registers.old) (images_at registers.old) x bus driver type0 }
+    ensures same { Same registers.old registers.new }
 {
-    let left = possible_from(table, bus);
-    bus_step(table, bridges, devices, x, bus, driver, type0, left)
+    let left = possible_from(registers.table, bus);
+    bus_step(registers, x, bus, driver, type0, left)
 }
 
 // A configuration access, which starts at the host.
-pub fn route_configuration(
-    table: &Table,
-    bridges: &mut [u8],
-    devices: &mut [u8],
-    x: Access,
-) -> Route
-    ensures { result_of result bridges.new devices.new ≡ configure (tree_of table.now) (images bridges.old devices.old) x }
+pub fn route_configuration(registers: &mut RegistersMut, x: Access) -> Route
+    ensures leaves { gives result (images_at registers.new) ≡ configure (tree_at registers.old) (images_at registers.old) x }
+    ensures same { Same registers.old registers.new }
 {
-    route_from(table, bridges, devices, x, 255, 255, x.address == 0)
+    route_from(registers, x, 255, 255, x.address == 0)
 }
 
 // Bit 12 of an initiating device whose access came to a target abort.
-fn receive(table: &Table, bridges: &mut [u8], devices: &mut [u8], i: u8, o: Outcome)
-    ensures { images bridges.new devices.new ≡ received (tree_of table.now) (images bridges.old devices.old) i o }
+fn receive(registers: &mut RegistersMut, i: u8, o: Outcome)
+    ensures leaves { images_at registers.new ≡ received (tree_at registers.old) (images_at registers.old) i o }
+    ensures same { Same registers.old registers.new }
 {
-    match o {
-        Outcome::Abort => {}
-        Outcome::Done => {}
-        Outcome::Target => register_image::image::status_node(
-            table,
-            bridges,
-            devices,
-            i,
-            Side::Primary,
-            StatusBit::ReceivedTargetAbort,
-        ),
+    if o == Outcome::Target {
+        registers.status_node(i, Side::Primary, StatusBit::ReceivedTargetAbort);
     }
 }
 
 // What comes back to an initiating device.
-fn return_to(table: &Table, bridges: &mut [u8], devices: &mut [u8], i: u8, e: End)
-    ensures { images bridges.new devices.new ≡ returned (tree_of table.now) (images bridges.old devices.old) i e }
+fn return_to(registers: &mut RegistersMut, i: u8, e: End)
+    ensures leaves { images_at registers.new ≡ returned (tree_at registers.old) (images_at registers.old) i e }
+    ensures same { Same registers.old registers.new }
 {
-    let End::Unclaimed { holder, outcome } = e else {
+    let End::Unclaimed { outcome, .. } = e else {
         return;
     };
-    receive(table, bridges, devices, i, outcome);
+    receive(registers, i, outcome);
 }
 
 // The access of a device that drives: from the bus it sits on.
-fn route_device(table: &Table, bridges: &mut [u8], devices: &mut [u8], x: Access, i: u8) -> Route
-    ensures { result_of result bridges.new devices.new ≡ driven (tree_of table.now) (images bridges.old devices.old) x i }
+fn route_device(registers: &mut RegistersMut, x: Access, i: u8) -> Route
+    ensures leaves { gives result (images_at registers.new) ≡ driven (tree_at registers.old) (images_at registers.old) x i }
+    ensures same { Same registers.old registers.new }
 {
-    let bus = rack::table::parent_at(table, i);
-    let r = route_from(table, bridges, devices, x, bus, i, false);
-    let end = r.end;
-    return_to(table, bridges, devices, i, end);
+    let bus = rack::table::parent_at(registers.table, i);
+    let r = route_from(registers, x, bus, i, false);
+    return_to(registers, i, r.end);
     r
 }
 
 // A memory or I/O access of the host or of a device.
-pub fn route_access(
-    table: &Table,
-    bridges: &mut [u8],
-    devices: &mut [u8],
-    x: Access,
-    i: u8,
-) -> Route
-    ensures { result_of result bridges.new devices.new ≡ access (tree_of table.now) (images bridges.old devices.old) x i }
+pub fn route_access(registers: &mut RegistersMut, x: Access, i: u8) -> Route
+    ensures leaves { gives result (images_at registers.new) ≡ access (tree_at registers.old) (images_at registers.old) x i }
+    ensures same { Same registers.old registers.new }
 {
     if i == 255 {
-        return route_from(table, bridges, devices, x, 255, 255, false);
+        return route_from(registers, x, 255, 255, false);
     }
-    if bit_at(byte_of(table, bridges, devices, i, COMMAND), COMMAND_MASTER) {
-        return route_device(table, bridges, devices, x, i);
+    if bit_at(byte_of(&registers.lent(), i, COMMAND), COMMAND_MASTER) {
+        return route_device(registers, x, i);
     }
     Route {
         crossings: 0,

@@ -46,9 +46,6 @@ module _ (t : Tree) (im : Images) (bus g : ℕ) {v : Images} where
   unfolding signalled
   signal_set es ev = rw (← es) ev
 
-  pub signal_last : {o : Outcome} → o ≡ Target → v ≡ signalled t im bus g → v ≡ last_images t im bus g o
-  signal_last e ev = rw e ev
-
 module _ (t : Tree) (im : Images) (x : Access) (bus g : ℕ) where
   -- the last bridge
   pub at_last : {o w : Outcome} {v : Images} → o ≡ Abort → w ≡ last_outcome t im x g → v ≡ last_images t im bus g w

@@ -1,7 +1,9 @@
 -- What a bus does with an access, after the code has asked for what it rests on.
 use mathlib.Core.Path.{◌≡◌, ap, sym, ◌∙◌}
 use mathlib.Core.Bool.{Bool, true, false}
-use Prim.Native.Nat.{ℕ}
+use mathlib.Core.Logic.{◌≢◌}
+use Prim.Native.Nat.{ℕ, ◌<◌}
+use native.Mathlib.Omega.{arith}
 use borrow.Author.Tests.{eq-eqb, ne_eqb}
 use Rattle.rack.specs.definitions.Tree.{Tree}
 use Rattle.register_header.specs.declared.Side.{Side}
@@ -43,14 +45,13 @@ module _ (t : Tree) (im : Images) (bus devfn : ℕ) {held : Bool} (eh : held ≡
   found_free q e = rw (← eh, q) e
 
 module _ (t : Tree) (im : Images) (x : Access) (bus driver : ℕ) where
-  module _ {g : ℕ} (eg : g ≡ found t im bus x.devfn) where
-    pub selects_none : {v : Result Sight} → g ≡ 255 → v ≡ unclaimed t im bus driver → v ≡ selects t im x bus driver
-    unfolding selects
-    selects_none e ev = rw (← eg, eq-eqb g 255 e) ev
+  pub selects_none : {v : Result Sight} → 255 ≡ found t im bus x.devfn → v ≡ unclaimed t im bus driver → v ≡ selects t im x bus driver
+  unfolding selects
+  selects_none e ev = rw (← e) ev
 
-    pub selects_node : (g ≡ 255 → ⊥) → gives (Ends (Node g)) im ≡ selects t im x bus driver
-    unfolding selects
-    selects_node ne = rw (← eg, ne_eqb g 255 ne)
+  pub selects_node : {g : ℕ} → g ≡ found t im bus x.devfn → g < 255 → gives (Ends (Node g)) im ≡ selects t im x bus driver
+  unfolding selects
+  selects_node {g} eg below = let ne : g ≢ 255 = omega arith in rw (← eg, ne_eqb g 255 ne)
 
   module _ {b : Bool} (eb : b ≡ is_special_cycle x) where
     pub direct_special : b ≡ true → gives (Ends (Special bus)) im ≡ direct t im x bus driver

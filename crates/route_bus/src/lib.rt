@@ -18,7 +18,7 @@ pub struct Access {
 }
 
 // What came of an unclaimed access.
-#[derive(Clone, Copy)]
+#[derive(Clone, Copy, PartialEq, Eq)]
 pub enum Outcome {
     Abort,
     Done,

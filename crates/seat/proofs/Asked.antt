@@ -1,12 +1,12 @@
 -- What is asked of a table: the number of a pair, a write, a seat, a seat record.
-use mathlib.Core.Path.{◌≡◌, refl, sym, ◌∙◌}
-use mathlib.Core.Bool.{Bool, true, false, ◌&&◌, ◌||◌, or-false}
+use mathlib.Core.Path.{◌≡◌, sym, ◌∙◌}
+use mathlib.Core.Bool.{Bool, not, true, false, ◌&&◌, ◌||◌, or-false}
 use mathlib.Core.List.{List}
-use Prim.Native.Nat.{ℕ, ◌+◌, ◌/◌, ◌%◌, ◌≤◌, ◌<◌}
+use Prim.Native.Nat.{ℕ, ◌/◌, ◌%◌, ◌≤◌, ◌<◌}
 use lib.Dec.{leb, ltb, eqb}
 use lib.ListN.{get_or}
 use borrow.Author.Tests.{ne_eqb, lt-leb}
-use Rattle.rack.specs.laws.CountLaws.{NoneYet, some_next, some_found, some_none}
+use Rattle.rack.specs.definitions.Count.{some}
 use Rattle.seat.specs.declared.SeatRecord.{SeatRecord}
 use Rattle.seat.specs.definitions.Grants.{Grants, acting, has_dword, may_write, unknown_seat, seat_wrong, is_pair, slot}
 use Rattle.seat.specs.definitions.Table.{number_at, grants_of}
@@ -31,25 +31,13 @@ module _ (table : List ℕ) (seat node : ℕ) where
     unfolding may_write
     may_by_grant l q e = rw (lt-leb 64 register l, or-false (eqb seat 0), e, q)
 
--- a seat that is named with no node before this one
-abbrev pub UnnamedYet : Grants → ℕ → ℕ → Type 0
-UnnamedYet g seat node = NoneYet (λ k. (g.grant seat k).named) 96 node
-
 pub known_zero : (g : Grants) (seat : ℕ) → seat ≡ 0 → false ≡ unknown_seat g seat
 known_zero g seat e = sym (unknown_zero g seat e)
 
-module _ (g : Grants) (seat : ℕ) {node : ℕ} (yet : UnnamedYet g seat node) (ne : seat ≡ 0 → ⊥) where
-  pub unknown_none : 96 ≤ node → true ≡ unknown_seat g seat
-  unfolding unknown_seat
-  unknown_none h = rw (ne_eqb seat 0 ne, ← some_none (λ k. (g.grant seat k).named) yet refl h)
-
-  module _ {b : Bool} (h : node < 96) (e : b ≡ (g.grant seat node).named) where
-    pub unknown_next : b ≡ false → UnnamedYet g seat (node + 1)
-    unknown_next q = some_next (λ k. (g.grant seat k).named) yet h e q
-
-    pub known_found : b ≡ true → false ≡ unknown_seat g seat
-    unfolding unknown_seat
-    known_found q = rw (ne_eqb seat 0 ne, ← some_found (λ k. (g.grant seat k).named) yet refl h e q)
+-- a seat other than 0, by whether it is named with some node
+pub unknown_not_named : (g : Grants) (seat : ℕ) {b : Bool} → (seat ≡ 0 → ⊥) → b ≡ some (λ node. (g.grant seat node).named) 96 → not b ≡ unknown_seat g seat
+unfolding unknown_seat
+unknown_not_named g seat ne e = rw (ne_eqb seat 0 ne, e)
 
 -- refusal 14, as it is asked
 pub wrong_by : (count : ℕ) (g : Grants) (r : SeatRecord) {b : Bool} → b ≡ (g.grant r.seat r.node).named

@@ -12,7 +12,6 @@ use Rattle.rack.specs.declared.Grant.{Grant}
 use Rattle.rack.specs.declared.Rack.{Rack}
 use Rattle.rack.specs.definitions.Count.{some}
 use Rattle.rack.specs.laws.Bools.{tested, both}
-use Rattle.rack.specs.laws.CountLaws.{NoneYet, some_next, some_found, some_none}
 use Rattle.seat.specs.declared.SeatRecord.{SeatRecord}
 use Rattle.seat.specs.definitions.Grants.{Grants, no_grant, own_grant, no_grants, seat_wrong, granting, faulty, is_pair, slot, named_missing, grants}
 use Rattle.seat.specs.definitions.Table.{grant_number, grant_from, number_at, grants_of}
@@ -152,18 +151,3 @@ module _ (rack : Rack) {g : Grants} {k : ℕ} {b : Bool} (e : g ≡ grants_to ra
 
   pub to_faulty : {t : Grants} → b ≡ true → t ≡ faulty g → t ≡ grants rack
   to_faulty w f = f ∙ rw (e, all) (grants_same (to_each rack) (sym w ∙ q))
-
--- no pair before place k names a missing node
-abbrev pub SoundYet : Rack → ℕ → Type 0
-SoundYet rack k = NoneYet (named_missing rack) 1440 k
-
-module _ (rack : Rack) {k : ℕ} (yet : SoundYet rack k) where
-  pub missing_none : 1440 ≤ k → false ≡ some (named_missing rack) 1440
-  missing_none h = some_none (named_missing rack) yet refl h
-
-  module _ (h : k < 1440) where
-    pub missing_next : named_missing rack k ≡ false → SoundYet rack (k + 1)
-    missing_next q = some_next (named_missing rack) yet h refl q
-
-    pub missing_found : named_missing rack k ≡ true → true ≡ some (named_missing rack) 1440
-    missing_found q = some_found (named_missing rack) yet refl h refl q

@@ -19,9 +19,7 @@ fn put(grants: &mut GrantTable, at: usize, number: u32)
     requires { at ≤ 1440 }
     ensures { (length grants.old ≡ 1441) × (grants.new ≡ set grants.old at number) }
 {
-    // As a slice: the proof is told its length, and not that of an array behind a reference.
-    let all = &mut grants[..];
-    all[at] = number;
+    grants[at] = number;
 }
 
 // Refusal 14 is noted.
@@ -58,15 +56,7 @@ fn grant_number(g: Grant) -> u32
 fn names_missing(rack: Rack) -> bool
     ensures { result ≡ some (named_missing rack) 1440 }
 {
-    let mut k: usize = 0;
-    while k < 1440 {
-        let g = rack.grants[k];
-        if g.named & (rack.count as usize <= k % 96) {
-            return true;
-        }
-        k += 1;
-    }
-    false
+    (0..1440).any(|k| rack.grants[k].named & (rack.count as usize <= k % 96))
 }
 
 // The grants of a decoded rack.
@@ -74,10 +64,8 @@ pub fn grants_of(rack: Rack) -> GrantTable
     ensures { grants_of result ≡ grants rack }
 {
     let mut table = no_grants();
-    let mut at: usize = 0;
-    while at < 1440 {
+    for at in 0..1440 {
         put(&mut table, at, grant_number(rack.grants[at]));
-        at += 1;
     }
     if names_missing(rack) {
         note_wrong(&mut table);

@@ -5,6 +5,7 @@ pub mod grow;
 pub mod table;
 
 // A seat record as it is read: the seat, the node, and a mask with bit i for dword i.
+// Bytes as they come: refusal 14 judges them.
 #[derive(Clone, Copy)]
 pub struct SeatRecord {
     pub seat: u8,

@@ -6,6 +6,7 @@ ghost use Rattle.seat.specs.definitions.Table.{number_at, grants_of};
 use rack::Grant;
 
 // A number for each pair of seats 1 to 15 and 96 nodes, then 1 where a seat record is faulty.
+// An array and no struct: the theorems say what any numbers hold (`grants_of`), so nothing is asked of one that is lent.
 pub type GrantTable = [u32; 1441];
 
 // The place of a pair.
@@ -16,14 +17,15 @@ pub(crate) fn slot(seat: u8, node: u8) -> usize
     96 * (seat as usize - 1) + node as usize
 }
 
-// The number of a pair, 0 where there is none.
+// The number of a pair, 0 where there is none, as the table has it. No `Option`: the definitions name the table's own 0.
 fn number_at(grants: &GrantTable, seat: u8, node: u8) -> u32
     ensures { result ≡ number_at grants.now seat node }
 {
     if (1 <= seat) & (seat <= 15) & (node < 96) {
-        return grants[slot(seat, node)];
+        grants[slot(seat, node)]
+    } else {
+        0
     }
-    0
 }
 
 // Whether a seat record names the two together.
@@ -66,22 +68,12 @@ pub fn may_write(grants: &GrantTable, seat: u8, node: u8, register: u8) -> bool
 pub fn unknown_seat(grants: &GrantTable, seat: u8) -> bool
     ensures { result ≡ unknown_seat (grants_of grants.now) seat }
 {
-    if seat == 0 {
-        return false;
-    }
-    let mut node: u8 = 0;
-    while node < 96 {
-        if is_named(grants, seat, node) {
-            return false;
-        }
-        node += 1;
-    }
-    true
+    seat != 0 && !(0..96).any(|node| is_named(grants, seat, node))
 }
 
 // Refusal 14: a seat record is faulty.
 pub fn is_wrong(grants: &GrantTable) -> bool
     ensures { result ≡ (grants_of grants.now).wrong }
 {
-    !(grants[1440] == 0)
+    grants[1440] != 0
 }

@@ -1,5 +1,5 @@
 -- The two rings of an arbiter and the search in them. Sentences are those of document 02, E14.
-use Rattle.std.specs.Prelude.{ℕ, zero, suc, ◌+◌, ◌/◌, ◌%◌, ◌^◌, Bool, false, not, ◌||◌, cond, List, [], ◌∷◌, ◌++◌, eqb, leb, ltb}
+use Rattle.std.specs.Prelude.{ℕ, zero, suc, ◌+◌, ◌/◌, ◌%◌, ◌^◌, Option, None, Some, Bool, false, not, ◌||◌, cond, List, [], ◌∷◌, ◌++◌, eqb, leb, ltb}
 
 infix 50 ◌has◌
 -- whether a set of requesters has member i: bit i of its number
@@ -37,6 +37,10 @@ low_place = 10
 
 abbrev pub none : ℕ
 none = 15
+
+-- a place that may be none, as an option
+abbrev pub place_named : ℕ → Option ℕ
+place_named n = cond (eqb n none) None (Some n)
 
 -- 'The high ring has the high members by number and, last, one place for the whole low group', also where the group is empty
 abbrev pub high_ring : ℕ → List ℕ

@@ -1,13 +1,11 @@
 -- What the open call answers: 20 where it is refused, and else what the step gives.
-use Rattle.std.specs.Prelude.{◌≡◌, refl, ℕ, ◌<◌, Bool, true, false, not, ◌||◌, eqb}
+use Rattle.std.specs.Prelude.{◌≡◌, refl, ℕ, ◌<◌, Bool, true, false, not, ◌||◌, Ok, Err}
 use Rattle.std.proofs.Common.{true≢false}
 use borrow.Author.Tests.{leb-false}
 use Rattle.arbiter.specs.declared.State.{State}
-use Rattle.arbiter.specs.declared.Turn.{Turn}
-use Rattle.arbiter.specs.declared.Arbitration.TheVariants.{Refused}
-use Rattle.arbiter.specs.definitions.Rings.{none, high_ring, low_ring}
-use Rattle.arbiter.specs.definitions.Arbiter.{step, is_state, above_nine, refused, answer_of, arbitrate, refusal_of}
-use Rattle.arbiter.specs.laws.Search.{tested}
+use Rattle.rack.specs.declared.refusal.Refusal.TheVariants.{BadArbitration}
+use Rattle.arbiter.specs.definitions.Rings.{high_ring, low_ring}
+use Rattle.arbiter.specs.definitions.Arbiter.{step, is_state, above_nine, refused, turn_of, arbitrate}
 
 four : (a b c d : Bool) → (((a || b) || not c) || not d) ≡ false → (a ≡ false) × (b ≡ false) × (c ≡ true) × (d ≡ true)
 four false false true true e = (refl, refl, refl, refl)
@@ -25,14 +23,10 @@ module _ (mask requests : ℕ) (s : State) where
       let k = four (above_nine mask) (above_nine requests) (is_state (high_ring mask) s.high) (is_state (low_ring mask) s.low) e in
       (leb-false 1024 mask k.0, leb-false 1024 requests k.1, k.2, k.3)
 
-  pub is_refused : refused mask requests s ≡ true → arbitrate mask requests s ≡ Refused 20
+  pub is_refused : refused mask requests s ≡ true → arbitrate mask requests s ≡ Err BadArbitration
   unfolding arbitrate
   is_refused e = rw e
 
-  pub is_answered : refused mask requests s ≡ false → arbitrate mask requests s ≡ answer_of (step mask requests s)
+  pub is_answered : refused mask requests s ≡ false → arbitrate mask requests s ≡ Ok (turn_of (step mask requests s))
   unfolding arbitrate
   is_answered e = rw e
-
-pub no_refusal : (t : Turn) → refusal_of (answer_of t) ≡ 0
-unfolding answer_of
-no_refusal t = tested (eqb t.member none) (λ k. rw k) (λ k. rw k)

@@ -9,7 +9,8 @@ use mathlib.Core.List.{List, [], ◌∷◌, ◌++◌, append-nil}
 use Rattle.std.proofs.Math.Dec.{eqb}
 use borrow.Author.Tests.{eq-eqb, ne_eqb}
 use Rattle.arbiter.specs.definitions.Rings.{◌has◌, up_from, keep, is_in, high_members, low_place, high_ring, low_ring}
-use Rattle.arbiter.specs.laws.Search.{tested, keep_append, keep_same}
+use Rattle.rack.specs.laws.Bools.{tested}
+use Rattle.arbiter.specs.laws.Search.{keep_append, keep_same}
 
 -- each of the eleven places is the low place or a member's
 pub low_or_member : (p : ℕ) → p < 11 → (p ≡ low_place) ⊎ (p < 10)

@@ -1,5 +1,6 @@
 -- Laws of the search in a ring: over all eleven places it finds what it finds in the ring's list, and it is two searches upwards.
 use Rattle.std.specs.Prelude.{◌≡◌, ◌⊎◌, Bool, true, false, ◌&&◌, List, [], ◌∷◌, ◌++◌, eqb}
+use Rattle.std.specs.Option.{unwrap_or}
 use Rattle.std.proofs.Math.Path.{refl, ap, ap₂}
 use Rattle.std.proofs.Common.{sym, ◌∙◌, inr, eq-or-lt_of_le}
 use Rattle.std.proofs.Math.Logic.{inl, ⊎_elim, ⊎_map}
@@ -8,11 +9,12 @@ use native.Mathlib.Omega.{arith}
 use Rattle.std.proofs.Math.Bool.{cond}
 use Rattle.std.proofs.Math.Dec.{leb, ltb}
 use borrow.Author.Tests.{lt-ltb, le-ltb, ne_eqb, eqb-true, leb-false}
-use Rattle.arbiter.specs.definitions.Rings.{up_from, keep, none, onwards, first_of}
+use Rattle.rack.specs.laws.Bools.{tested}
+use Rattle.arbiter.specs.definitions.Rings.{up_from, keep, none, place_named, onwards, first_of}
 
-pub tested : {A : Type 0} (b : Bool) → (b ≡ true → A) → (b ≡ false → A) → A
-tested true t f = t refl
-tested false t f = f refl
+-- a number that may be none, as an option and back
+pub named_or : (n : ℕ) → unwrap_or (place_named n) none ≡ n
+named_or n = tested (eqb n none) (λ k. rw k (sym (eqb-true n none k))) (λ k. rw k)
 
 pub keep_append : (f : ℕ → Bool) (xs ys : List ℕ) → keep f (xs ++ ys) ≡ keep f xs ++ keep f ys
 unfolding keep

@@ -1,8 +1,9 @@
 -- A caller's run: a list of calls, each with the state that the one before gave.
-use Rattle.std.specs.Prelude.{◌≡◌, ℕ, ◌<◌, true, cond, List, [], ◌∷◌, eqb}
+use Rattle.std.specs.Prelude.{◌≡◌, ℕ, ◌<◌, true, cond, List, [], ◌∷◌, Result, Ok, Err, eqb}
+use Rattle.std.specs.Option.{unwrap_or}
+use Rattle.rack.specs.declared.refusal.Refusal.{Refusal}
 use Rattle.arbiter.specs.declared.State.{State}
-use Rattle.arbiter.specs.declared.Arbitration.{Arbitration}
-use Rattle.arbiter.specs.declared.Arbitration.TheVariants.{Refused, NoGrant, Grant}
+use Rattle.arbiter.specs.declared.Turn.{Turn}
 use Rattle.arbiter.specs.definitions.Rings.{none, high_ring, low_ring}
 use Rattle.arbiter.specs.definitions.Arbiter.{is_state, arbitrate}
 
@@ -18,22 +19,20 @@ Sets [] = Unit {0}
 Sets (requests ∷ rest) = (requests < 1024) × Sets rest
 
 -- the member that an answer grants, none where it grants nobody
-unfoldable pub member_of : Arbitration → ℕ
-member_of (Refused n) = none
-member_of (NoGrant after) = none
-member_of (Grant member after) = member
+unfoldable pub member_of : Result Turn Refusal → ℕ
+member_of (Err r) = none
+member_of (Ok t) = unwrap_or t.member none
 
 -- the state that the next call is given; after a refusal it is the caller's own
-unfoldable pub state_after : State → Arbitration → State
-state_after s (Refused n) = s
-state_after s (NoGrant after) = after
-state_after s (Grant member after) = after
+unfoldable pub state_after : State → Result Turn Refusal → State
+state_after s (Err r) = s
+state_after s (Ok t) = t.after
 
-unfoldable pub answers : ℕ → State → List ℕ → List Arbitration
+unfoldable pub answers : ℕ → State → List ℕ → List (Result Turn Refusal)
 answers mask s [] = []
 answers mask s (requests ∷ rest) = arbitrate mask requests s ∷ answers mask (state_after s (arbitrate mask requests s)) rest
 
 -- the members that these answers grant, in order
-unfoldable pub members_in : List Arbitration → List ℕ
+unfoldable pub members_in : List (Result Turn Refusal) → List ℕ
 members_in [] = []
 members_in (a ∷ rest) = cond (eqb (member_of a) none) (members_in rest) (member_of a ∷ members_in rest)

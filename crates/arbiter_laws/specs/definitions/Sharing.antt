@@ -1,8 +1,9 @@
 -- Request E14 in one place: what is proved of the arbiter. Sentences are those of document 02; the proofs are in specs/laws/Proved.antt.
 use Rattle.std.specs.Prelude.{◌≡◌, ℕ, ◌^◌, ◌≤◌, ◌<◌, true, false, cond, List, [], ◌∷◌, ◌++◌, length, take, replicate}
+use Rattle.rack.specs.definitions.Refused.{number_of}
 use Rattle.arbiter.specs.declared.State.{State}
 use Rattle.arbiter.specs.definitions.Rings.{◌has◌, is_in, low_place, none}
-use Rattle.arbiter.specs.definitions.Arbiter.{first, step, above_nine, refused, arbitrate, refusal_of}
+use Rattle.arbiter.specs.definitions.Arbiter.{first, step, above_nine, refused, arbitrate}
 use Rattle.arbiter_laws.specs.definitions.Fair.{run_from, run, grants, Keeps, Within, highs, lows, bound, Needs, alone, everybody}
 use Rattle.arbiter_laws.specs.definitions.Calls.{Accepted, Sets, member_of, state_after, answers, members_in}
 
@@ -23,7 +24,7 @@ module _ (mask requests : ℕ) (s : State) where
   -- the open call: 'A mask or request set with a bit above 9, or a state that names a place its ring lacks, is 20'; every other is
   -- accepted, gives what the step gives, and a state that is accepted again
   pub record Called : Type 0 where
-    pub refusal : refusal_of (arbitrate mask requests s) ≡ cond (refused mask requests s) 20 0
+    pub refusal : number_of (arbitrate mask requests s) ≡ cond (refused mask requests s) 20 0
     pub accepted : refused mask requests s ≡ false → Accepted mask s × (requests < 1024)
     pub accepts : Accepted mask s → requests < 1024 → refused mask requests s ≡ false
     pub member : refused mask requests s ≡ false → member_of (arbitrate mask requests s) ≡ (step mask requests s).member

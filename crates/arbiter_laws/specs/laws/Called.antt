@@ -1,15 +1,17 @@
 -- The theorems over the open call: when it refuses, what it grants, and that the state it gives is accepted again.
-use Rattle.std.specs.Prelude.{◌≡◌, refl, ℕ, zero, suc, ◌+◌, ◌*◌, ◌/◌, ◌%◌, ◌^◌, ◌≤◌, ◌<◌, false, cond, List, [], ◌∷◌, eqb}
+use Rattle.std.specs.Prelude.{◌≡◌, refl, ℕ, zero, suc, ◌+◌, ◌*◌, ◌/◌, ◌%◌, ◌^◌, ◌≤◌, ◌<◌, false, cond, List, [], ◌∷◌}
 use Rattle.std.proofs.Common.{sym, ap, subst, mod-lt, arith, pow_pos, shr_lt}
 use Rattle.std.proofs.Math.Bool.{or-true}
 use Rattle.std.proofs.Math.Pow.{split}
-use borrow.Author.Tests.{eqb-true, eqb-false, leb-false, lt-leb}
+use borrow.Author.Tests.{eqb-false, leb-false, lt-leb}
+use Rattle.rack.specs.definitions.Refused.{number_of}
 use Rattle.arbiter.specs.declared.State.{State}
 use Rattle.arbiter.specs.definitions.Rings.{◌has◌, is_in, none, high_ring, low_ring}
-use Rattle.arbiter.specs.definitions.Arbiter.{first, step, is_state, above_nine, refused, answer_of, arbitrate, refusal_of}
-use Rattle.arbiter.specs.laws.Search.{tested}
+use Rattle.arbiter.specs.definitions.Arbiter.{first, step, is_state, above_nine, refused, arbitrate}
+use Rattle.rack.specs.laws.Bools.{tested}
+use Rattle.arbiter.specs.laws.Search.{named_or}
 use Rattle.arbiter.specs.laws.Sets.{has_none}
-use Rattle.arbiter.specs.laws.Answers.{not_refused, is_refused, is_answered, no_refusal}
+use Rattle.arbiter.specs.laws.Answers.{not_refused, is_refused, is_answered}
 use Rattle.arbiter_laws.specs.definitions.Fair.{grants, Keeps, Within, bound}
 use Rattle.arbiter_laws.specs.definitions.Calls.{Accepted, Sets, member_of, state_after, answers, members_in}
 use Rattle.arbiter_laws.specs.laws.Granted.{high_stays, low_stays}
@@ -44,21 +46,18 @@ module _ (mask requests : ℕ) (s : State) where
   is_accepted a r = rw (lt-leb 1024 mask a.few, lt-leb 1024 requests r, a.high, a.low)
 
   -- the refusal's number: 20 where it is refused, and none elsewhere
-  pub refusal_is : refusal_of (arbitrate mask requests s) ≡ cond (refused mask requests s) 20 0
+  pub refusal_is : number_of (arbitrate mask requests s) ≡ cond (refused mask requests s) 20 0
   refusal_is =
-      tested (refused mask requests s) (λ k. rw (is_refused mask requests s k, k))
-      (λ k. rw (is_answered mask requests s k, k) (no_refusal (step mask requests s)))
+      tested (refused mask requests s) (λ k. rw (is_refused mask requests s k, k)) (λ k. rw (is_answered mask requests s k, k))
 
   -- what an accepted call gives is what the step gives
   pub member_is : refused mask requests s ≡ false → member_of (arbitrate mask requests s) ≡ (step mask requests s).member
-  unfolding member_of answer_of
-  member_is e =
-      rw (is_answered mask requests s e)
-      (tested (eqb (step mask requests s).member none) (λ j. rw j (sym (eqb-true (step mask requests s).member none j))) (λ j. rw j))
+  unfolding member_of
+  member_is e = rw (is_answered mask requests s e) (named_or (step mask requests s).member)
 
   pub state_is : refused mask requests s ≡ false → state_after s (arbitrate mask requests s) ≡ (step mask requests s).after
-  unfolding state_after answer_of
-  state_is e = rw (is_answered mask requests s e) (tested (eqb (step mask requests s).member none) (λ j. rw j) (λ j. rw j))
+  unfolding state_after
+  state_is e = rw (is_answered mask requests s e)
 
   -- accepted states stay accepted
   pub stays : Accepted mask s → Accepted mask (step mask requests s).after

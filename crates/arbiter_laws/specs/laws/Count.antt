@@ -7,7 +7,8 @@ use Prim.Native.Nat.{ℕ, zero, suc, ◌+◌, ◌≤◌, ◌<◌}
 use native.Mathlib.Omega.{arith}
 use Rattle.std.proofs.lemmas.Bool.{false≢true}
 use Rattle.arbiter.specs.definitions.Rings.{up_from, keep}
-use Rattle.arbiter.specs.laws.Search.{tested, keep_same}
+use Rattle.rack.specs.laws.Bools.{tested}
+use Rattle.arbiter.specs.laws.Search.{keep_same}
 
 -- the number of places among the n from i on that pass
 abbrev pub count : (ℕ → Bool) → ℕ → ℕ → ℕ

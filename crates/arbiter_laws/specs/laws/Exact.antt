@@ -8,7 +8,7 @@ use borrow.Author.Tests.{eqb-true, eqb-false}
 use Rattle.arbiter.specs.declared.State.{State}
 use Rattle.arbiter.specs.definitions.Rings.{◌has◌, low_place}
 use Rattle.arbiter.specs.definitions.Arbiter.{step}
-use Rattle.arbiter.specs.laws.Search.{tested}
+use Rattle.rack.specs.laws.Bools.{tested}
 use Rattle.arbiter_laws.specs.definitions.Fair.{highs}
 use Rattle.arbiter_laws.specs.laws.Order.{Next, ahead, all_ahead, Exactly, once}
 use Rattle.arbiter_laws.specs.laws.Steps.{asks_low, asks_high, ToHigh, ToLow, cases}

@@ -8,7 +8,7 @@ use Rattle.std.proofs.lemmas.Bool.{eqb-false}
 use Rattle.arbiter.specs.declared.State.{State}
 use Rattle.arbiter.specs.definitions.Rings.{◌has◌, is_in, none}
 use Rattle.arbiter.specs.definitions.Arbiter.{step}
-use Rattle.arbiter.specs.laws.Search.{tested}
+use Rattle.rack.specs.laws.Bools.{tested}
 use Rattle.arbiter_laws.specs.definitions.Fair.{run_from, run, grants, Keeps, waits, Within, highs, lows, bound, least}
 use Rattle.arbiter_laws.specs.laws.Granted.{is_granted_lem}
 use Rattle.arbiter_laws.specs.laws.Live.{some_low}

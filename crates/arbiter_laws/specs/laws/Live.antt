@@ -6,7 +6,8 @@ use Rattle.std.proofs.Math.Bool.{and-eq-true_iff}
 use Rattle.arbiter.specs.declared.State.{State}
 use Rattle.arbiter.specs.definitions.Rings.{◌has◌, is_in, high_members, low_place, none, high_ring, low_ring}
 use Rattle.arbiter.specs.definitions.Arbiter.{next_low, place_requests}
-use Rattle.arbiter.specs.laws.Search.{tested, keep_same}
+use Rattle.rack.specs.laws.Bools.{tested}
+use Rattle.arbiter.specs.laws.Search.{keep_same}
 use Rattle.arbiter.specs.laws.Places.{low_or_member, high_member, low_member, high_others, low_others, high_kept, low_kept}
 use Rattle.arbiter_laws.specs.definitions.Fair.{highs, lows}
 use Rattle.arbiter_laws.specs.laws.Count.{count, count_one, count_none}

@@ -7,7 +7,8 @@ use Rattle.std.proofs.Math.Bool.{and-eq-true_iff}
 use Rattle.std.proofs.Math.Dec.{ltb}
 use borrow.Author.Tests.{lt-ltb, le-ltb, ltb-true, ltb-false, eq-eqb, ne_eqb}
 use Rattle.arbiter.specs.definitions.Rings.{up_from, keep, is_in, none, onwards, first_of, next_after}
-use Rattle.arbiter.specs.laws.Search.{tested, Nobody, Found, searched, round, first_ring}
+use Rattle.rack.specs.laws.Bools.{tested}
+use Rattle.arbiter.specs.laws.Search.{Nobody, Found, searched, round, first_ring}
 use Rattle.arbiter_laws.specs.laws.Count.{count, count_one, count_lt, count_none}
 
 -- when a place is tried after `last`: on a clock of sixteen hours, on which none yet, 15, stands just before 0

@@ -7,7 +7,8 @@ use borrow.Author.Tests.{eq-eqb, ne_eqb, not-true}
 use Rattle.arbiter.specs.declared.State.{State}
 use Rattle.arbiter.specs.definitions.Rings.{◌has◌, is_in, low_place, none, high_ring, low_ring}
 use Rattle.arbiter.specs.definitions.Arbiter.{next_low, next_place, place_requests, granted, step}
-use Rattle.arbiter.specs.laws.Search.{tested, Nobody}
+use Rattle.rack.specs.laws.Bools.{tested}
+use Rattle.arbiter.specs.laws.Search.{Nobody}
 use Rattle.arbiter.specs.laws.Places.{low_or_member, high_member, low_member, high_others, low_others, high_kept, low_kept}
 use Rattle.arbiter_laws.specs.laws.Order.{Next, ring_next}
 

@@ -1,19 +1,16 @@
 use borrow.Author.Rules.{rules}
 use mathlib.Core.Path.{refl, sym, ◌∙◌}
-use Rattle.bench.proofs.Measured.{refused_shown, more_shown, last_shown}
+use Rattle.bench.proofs.Measured.{told_not_0, none_is_0, refused_shown, more_shown, last_shown}
 use Rattle.bench.proofs.bench_check.Goals as goal
 
-pub returns-then-refusal_of-ne0 : goal.returns-then-refusal_of-ne0
-returns-then-refusal_of-ne0 c = search (refused_shown, rules)
+pub returns-then-is_err : goal.returns-then-is_err
+returns-then-is_err c = refused_shown _ _ _ c.refusal_of.ensures (told_not_0 _ c.if-is_err.ensures.value)
 
-pub loop-i-init : goal.loop-i-init
-loop-i-init c = (sym c.refusal_of.ensures ∙ c.if-refusal_of-ne0.false, search rules, refl)
+pub loop-init : goal.loop-init
+loop-init c = (sym c.refusal_of.ensures ∙ none_is_0 _ c.if-is_err.ensures.value, refl)
 
-pub checked-shown-requires : goal.checked-shown-requires
-checked-shown-requires c = c.loop-i.invariant.0
-
-pub loop-i-preserved : goal.loop-i-preserved
-loop-i-preserved c = (c.loop-i.invariant.0, search rules, more_shown _ _ c.loop-i.i c.checked-shown.ensures)
+pub loop-preserved : goal.loop-preserved
+loop-preserved c = (c.loop.invariant.0, more_shown _ _ c.loop.counter c.checked-shown.ensures)
 
 pub returns : goal.returns
-returns c = search (last_shown, rules)
+returns c = last_shown _ _ _ c.loop.invariant.0 (search rules) (search rules) c.loop.invariant.1

@@ -1,10 +1,10 @@
 use Rattle.bench.specs.definitions.Shown.{value_of}
 use Rattle.bench.proofs.value_of.Goals as goal
 
-pub returns-in-Pass : goal.returns-in-Pass
+pub returns-in-Ok : goal.returns-in-Ok
 unfolding value_of
-returns-in-Pass c = simp c.in-Pass.is
+returns-in-Ok c = simp c.in-Ok.is
 
-pub returns-in-Fault : goal.returns-in-Fault
+pub returns-in-Err : goal.returns-in-Err
 unfolding value_of
-returns-in-Fault c = simp c.in-Fault.is
+returns-in-Err c = simp c.in-Err.is

@@ -1,5 +1,5 @@
 -- What a measurement shows of an answer, so that both sides can be compared.
-use Rattle.std.specs.Prelude.{ℕ, ◌+◌, ◌*◌, ◌/◌, false, cond, eqb}
+use Rattle.std.specs.Prelude.{ℕ, ◌+◌, ◌*◌, ◌/◌, false, cond, Ok, Err, eqb}
 use Rattle.rack.specs.definitions.Tree.{Tree}
 use Rattle.rack.specs.definitions.Refusal.{rack_refusal}
 use Rattle.register_image.specs.definitions.Image.{Images}
@@ -7,8 +7,7 @@ use Rattle.claim_agent.specs.declared.Space.TheVariants as space
 use Rattle.route_bus.specs.declared.Access.{Access}
 use Rattle.route_bus.specs.declared.End.{End}
 use Rattle.route_bus.specs.declared.End.TheVariants.{Node, Owner, Host, Unclaimed, Clash, Special, Silent}
-use Rattle.check_search.specs.declared.Report.{Report}
-use Rattle.check_search.specs.declared.Report.TheVariants.{Pass, Fault}
+use Rattle.check_search.specs.definitions.Report.{Report}
 use Rattle.check_search.specs.definitions.Check.{check}
 
 -- crossings, plus 1000 times the owner's number plus one where there is an owner
@@ -28,8 +27,8 @@ reading address =
 
 -- half of a fault's value, plus one, so that it fits; 0 for a pass
 unfoldable pub value_of : Report → ℕ
-value_of Pass = 0
-value_of (Fault holder space value driver first second) = value / 2 + 1
+value_of (Ok _) = 0
+value_of (Err f) = f.value / 2 + 1
 
 abbrev pub nothing : ℕ
 nothing = 0xFFFFFFFFFFFFFFFF

@@ -2,16 +2,20 @@ use Rattle.call_file.proofs.Opening.{open_refused, registers_fit, events_fit, fi
 use borrow.Author.Rules.{rules}
 use Rattle.call_file.proofs.open_file.Goals as goal
 
-pub returns-then-l-ne0 : goal.returns-then-l-ne0
-returns-then-l-ne0 c = search (open_refused, rules)
+pub returns-in-Err : goal.returns-in-Err
+returns-in-Err c = open_refused _ c.in-Err.ensures c.from.ensures _ _ c.refuse.ensures.0 c.refuse.ensures.1
 
 pub returns-then-lengths_wrong : goal.returns-then-lengths_wrong
 returns-then-lengths_wrong c =
-    open_lengths _ c.load_file-l.ensures c.if-l-ne0.false _ _ c.lengths_wrong.ensures c.if-lengths_wrong.true
-    c.put_sizes.ensures
+    let w = rw (c.lent.ensures.table, c.lent.ensures.bridges, c.lent.ensures.devices) at c.lengths_wrong.ensures in
+    let h = open_lengths _ c.in-Ok.ensures _ _ w c.if-lengths_wrong.true c.put_sizes.ensures in
+    rw c.from-then-lengths_wrong.ensures h
 
 pub start_images-requires : goal.start_images-requires
-start_images-requires c = (search (registers_fit, rules), search (events_fit, rules), search (file_fits, rules))
+start_images-requires c = (registers_fit _ c.in-Ok.ensures, events_fit _ c.in-Ok.ensures, file_fits _ c.in-Ok.ensures)
 
 pub returns : goal.returns
-returns c = search (open_made, rules)
+returns c =
+    let w = rw (c.lent.ensures.table, c.lent.ensures.bridges, c.lent.ensures.devices) at c.lengths_wrong.ensures in
+    let h = open_made _ c.in-Ok.ensures _ _ w c.if-lengths_wrong.false c.put_sizes-2.ensures c.start_images.ensures.leaves in
+    search rules

@@ -1,9 +1,9 @@
 use Rattle.call_file.proofs.Opening.{save_without_rack, save_made}
-use borrow.Author.Rules.{rules}
 use Rattle.call_file.proofs.save_bytes.Goals as goal
 
-pub returns-then-l-ne0 : goal.returns-then-l-ne0
-returns-then-l-ne0 c = search (save_without_rack, rules)
+pub returns-in-Err : goal.returns-in-Err
+returns-in-Err c = save_without_rack _ _ _ c.in-Err.ensures c.from.ensures c.refuse.ensures.0 c.refuse.ensures.1
 
 pub returns : goal.returns
-returns c = search (save_made, rules)
+returns c =
+    save_made _ _ _ c.in-Ok.ensures c.save_on.ensures.0 c.save_on.ensures.1 c.put_value.ensures.0 c.put_value.ensures.1

@@ -1,13 +1,16 @@
+use Rattle.std.proofs.Common.{refl, ap, ◌∙◌}
+use Rattle.std.specs.Prelude.{Ok}
 use Rattle.call_table.specs.definitions.Call.{read_in}
-use Rattle.call_table.specs.laws.HandedBack.{is_refused, is_given}
+use Rattle.call_table.specs.laws.HandedBack.{is_handed_on, is_given}
 use Rattle.call_node.proofs.Told.{read_of}
-use borrow.Author.Rules.{rules}
 use Rattle.call_node.proofs.read_on.Goals as goal
 
-pub returns-then-refusal-ne0 : goal.returns-then-refusal-ne0
+pub returns-in_err-refusal_by : goal.returns-in_err-refusal_by
 unfolding read_in
-returns-then-refusal-ne0 c = search (is_refused, rules)
+returns-in_err-refusal_by c =
+    is_handed_on _ _ _ _ _ c.read_refusal-field.ensures refl _ _ c.from_residual.result c.in_err-refusal_by.ensures c.from_residual.ensures.1
 
 pub returns : goal.returns
 unfolding read_in
-returns c = search (is_given, read_of, rules)
+returns c = is_given _ _ _ _ _ c.read_refusal-field.ensures refl _ _ c.in_ok-refusal_by.ensures refl
+    (ap Ok (c.from.ensures ∙ read_of _ c.view-part.ensures c.read_register.ensures))

@@ -1,16 +1,13 @@
 -- An answer as eight numbers: its own, the fields of its line, and zeros after them; and what a call returns with it.
-use Rattle.std.specs.Prelude.{ℕ, cond, List, [], ◌∷◌, ◌++◌, take}
+use Rattle.std.specs.Prelude.{ℕ, cond, Option, Some, None, Result, Ok, Err, List, [], ◌∷◌, ◌++◌, take}
 use Rattle.claim_window.specs.definitions.Range.{is_empty}
 use Rattle.event_run.specs.declared.Answer.{Answer}
 use Rattle.event_run.specs.definitions.Answers.{answer_number, answer_values}
-use Rattle.arbiter.specs.declared.Arbitration.{Arbitration}
-use Rattle.arbiter.specs.declared.Arbitration.TheVariants as arbitration
-use Rattle.call_table.specs.declared.Number.{Number}
-use Rattle.call_table.specs.declared.Number.TheVariants as number
-use Rattle.call_table.specs.declared.Reply.{Reply}
-use Rattle.call_table.specs.declared.Reply.TheVariants as reply
-use Rattle.call_table.specs.declared.RangeReply.{RangeReply}
-use Rattle.call_table.specs.declared.RangeReply.TheVariants as range-reply
+use Rattle.rack.specs.declared.refusal.Refusal.{Refusal}
+use Rattle.arbiter.specs.declared.State.{State}
+use Rattle.arbiter.specs.declared.Turn.{Turn}
+use Rattle.rack.specs.declared.Range.{Range}
+use Rattle.call_table.specs.definitions.Call.{Reply}
 
 abbrev pub zeros : List ℕ
 zeros = 0 ∷ 0 ∷ 0 ∷ 0 ∷ 0 ∷ 0 ∷ 0 ∷ 0 ∷ []
@@ -24,30 +21,33 @@ abbrev pub numbers_of : Answer → List ℕ
 numbers_of a = eight (answer_number a) (answer_values a)
 
 -- 01: 'and return the number'; 0 where nothing is refused
-abbrev pub code_of : Reply → ℕ
-code_of (reply.Refused n) = n
-code_of (reply.Answered a) = 0
+abbrev pub code_of : Reply Answer → ℕ
+code_of (Err n) = n
+code_of (Ok a) = 0
 
-abbrev pub reply_numbers : Reply → List ℕ
-reply_numbers (reply.Refused n) = zeros
-reply_numbers (reply.Answered a) = numbers_of a
+abbrev pub reply_numbers : Reply Answer → List ℕ
+reply_numbers (Err n) = zeros
+reply_numbers (Ok a) = numbers_of a
 
 -- a number alone
-abbrev pub value_numbers : Number → List ℕ
-value_numbers (number.Refused n) = zeros
-value_numbers (number.Value v) = eight v []
+abbrev pub value_numbers : Reply ℕ → List ℕ
+value_numbers (Err n) = zeros
+value_numbers (Ok v) = eight v []
 
 -- both ends of a window or region: 1, the first and the last address; all 0 where it is empty
-abbrev pub ends_code : RangeReply → ℕ
-ends_code (range-reply.Refused n) = n
-ends_code (range-reply.Range r) = 0
+abbrev pub ends_code : Reply Range → ℕ
+ends_code (Err n) = n
+ends_code (Ok r) = 0
 
-abbrev pub ends_numbers : RangeReply → List ℕ
-ends_numbers (range-reply.Refused n) = zeros
-ends_numbers (range-reply.Range r) = cond (is_empty r) zeros (eight 1 (r.first ∷ r.last ∷ []))
+abbrev pub ends_numbers : Reply Range → List ℕ
+ends_numbers (Err n) = zeros
+ends_numbers (Ok r) = cond (is_empty r) zeros (eight 1 (r.first ∷ r.last ∷ []))
 
 -- a step of the arbiter: 1, the member granted and the state after; or 2 and the state, where there is no grant
-abbrev pub arbitration_numbers : Arbitration → List ℕ
-arbitration_numbers (arbitration.Refused n) = zeros
-arbitration_numbers (arbitration.NoGrant s) = eight 2 (s.high ∷ s.low ∷ [])
-arbitration_numbers (arbitration.Grant member s) = eight 1 (member ∷ s.high ∷ s.low ∷ [])
+abbrev pub turn_numbers : Option ℕ → State → List ℕ
+turn_numbers None s = eight 2 (s.high ∷ s.low ∷ [])
+turn_numbers (Some member) s = eight 1 (member ∷ s.high ∷ s.low ∷ [])
+
+abbrev pub arbitration_numbers : Result Turn Refusal → List ℕ
+arbitration_numbers (Err r) = zeros
+arbitration_numbers (Ok t) = turn_numbers t.member t.after

@@ -1,6 +1,5 @@
 use Rattle.call_open.proofs.Over.{ends_over}
-use borrow.Author.Rules.{rules}
 use Rattle.call_open.proofs.window_ends.Goals as goal
 
 pub returns : goal.returns
-returns c = search (ends_over, rules)
+returns c = ends_over _ c.tables_of-t.ensures.0 _ c.tables_of-t.ensures.1 _ _ _ c.ends_on.ensures

@@ -1,18 +1,32 @@
+use Rattle.std.proofs.Common.{refl, ap, ◌∙◌}
+use Rattle.rack.specs.laws.RefusedLaws.{refusal_not_0, handed_on}
+use Rattle.call_table.specs.definitions.Call.{numbered}
 use Rattle.call_save.proofs.Saving.{refused_number, refused_buffer, saved_room, short_number, short_buffer, file_long, saved_buffer, saved_number}
-use borrow.Author.Rules.{rules}
 use Rattle.call_save.proofs.save_on.Goals as goal
 
-pub returns-then-refusal-ne0 : goal.returns-then-refusal-ne0
-returns-then-refusal-ne0 c = (search (refused_number, rules), search (refused_buffer, rules))
+pub returns-in_err-refusal_by : goal.returns-in_err-refusal_by
+returns-in_err-refusal_by c =
+    let bad = refusal_not_0 c.in_err-refusal_by.field-0.0 in (
+      ap numbered (handed_on c.from_residual.result c.from_residual.ensures.1)
+          ∙ refused_number _ _ _ c.in_err-refusal_by.ensures bad _,
+      refused_buffer _ _ _ c.in_err-refusal_by.ensures bad _,
+    )
 
 pub save-n-requires : goal.save-n-requires
-save-n-requires c = search (saved_room, rules)
+save-n-requires c = saved_room _ _ _ c.in_ok-refusal_by.ensures refl _ c.longest-space.ensures
 
 pub returns-then-out-n : goal.returns-then-out-n
-returns-then-out-n c = (search (short_number, rules), search (short_buffer, rules))
+returns-then-out-n c = (
+  short_number _ _ _ c.in_ok-refusal_by.ensures refl c.save-n.ensures.0 _ c.if-out-n.true,
+  short_buffer _ _ _ c.in_ok-refusal_by.ensures refl c.save-n.ensures.0 _ c.if-out-n.true,
+)
 
 pub copy_start-requires : goal.copy_start-requires
-copy_start-requires c = (search (file_long, rules), search rules)
+copy_start-requires c =
+    (file_long _ _ _ c.in_ok-refusal_by.ensures refl c.save-n.ensures.0 _ c.save-n.ensures.1, c.if-out-n.false)
 
 pub returns : goal.returns
-returns c = (search (saved_number, rules), search (saved_buffer, rules))
+returns c = (
+  saved_number _ _ _ c.in_ok-refusal_by.ensures refl c.save-n.ensures.0 _ c.if-out-n.false,
+  saved_buffer _ _ _ c.in_ok-refusal_by.ensures refl c.save-n.ensures.0 _ c.save-n.ensures.1 _ c.if-out-n.false c.copy_start.ensures,
+)

@@ -1,6 +1,8 @@
 use Rattle.call_save.proofs.Saving.{save_over, buffer_over}
-use borrow.Author.Rules.{rules}
 use Rattle.call_save.proofs.save_rack.Goals as goal
 
 pub returns : goal.returns
-returns c = (search (save_over, rules), search (buffer_over, rules))
+returns c = (
+  save_over _ c.table_of-table.ensures _ c.grants_of-grants.ensures _ _ c.save_on.ensures.0,
+  buffer_over _ c.table_of-table.ensures _ c.grants_of-grants.ensures _ _ c.save_on.ensures.1,
+)

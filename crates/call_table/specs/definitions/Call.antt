@@ -1,5 +1,9 @@
 -- The open calls over a decoded rack and two images: each answers or refuses by number, and says what both images are then.
-use Rattle.std.specs.Prelude.{ℕ, Bool, ◌||◌, List, [], ◌∷◌, leb, ltb}
+use Rattle.std.specs.Prelude.{ℕ, Bool, ◌||◌, List, [], ◌∷◌, leb, ltb, Ok, Err}
+use Rattle.std.specs.Prelude as std
+use Rattle.rack.specs.declared.refusal.Refusal.{Refusal}
+use Rattle.rack.specs.declared.Range.{Range}
+use Rattle.rack.specs.definitions.Refused.{refusal_number}
 use Rattle.rack.specs.definitions.Node.{is_bridge}
 use Rattle.rack.specs.definitions.First.{◌when◌, ◌or◌, unless}
 use Rattle.rack.specs.definitions.Tree.{Tree}
@@ -17,12 +21,15 @@ use Rattle.file_record.specs.definitions.Events.{event_wrong, event_unknown, reg
 use Rattle.event_run.specs.declared.Answer.{Answer}
 use Rattle.event_run.specs.declared.Answer.TheVariants.{Checked}
 use Rattle.event_run.specs.definitions.Run.{event_run}
-use Rattle.call_table.specs.declared.Reply.{Reply}
-use Rattle.call_table.specs.declared.Reply.TheVariants as reply
-use Rattle.call_table.specs.declared.Number.{Number}
-use Rattle.call_table.specs.declared.Number.TheVariants as number
-use Rattle.call_table.specs.declared.RangeReply.{RangeReply}
-use Rattle.call_table.specs.declared.RangeReply.TheVariants as range-reply
+
+-- what a call answers, or the number of its refusal
+abbrev pub Reply : Type 0 → Type 0
+Reply A = std.Result A ℕ
+
+-- what the code gives, in numbers
+abbrev pub numbered : {A : Type 0} → std.Result A Refusal → Reply A
+numbered (Ok x) = Ok x
+numbered (Err r) = Err (refusal_number r)
 
 -- 01: 'Calls apply 6 to 10 to the decoded rack node by node, as a file would meet them, then 11 to 13, and return the number'; 02, E1: 14
 -- and 15, 'both after 13'; E5: 18 'straight after 12', among those of the images; 0 where the call is accepted. `field` is 13 where a field
@@ -66,20 +73,20 @@ run_refusal t by im e = refusal_by t by.grants im (event_refusal t e) (seat_refu
 
 -- 01: 'Where an answer is an enum, the promises use a definition. That definition gives this paper's number and values for each of
 -- the enum's cases': the refusal's number, 0 where there is none, and the value
-abbrev pub number_code : Number → ℕ
-number_code (number.Refused n) = n
-number_code (number.Value v) = 0
+abbrev pub number_code : Reply ℕ → ℕ
+number_code (Err n) = n
+number_code (Ok v) = 0
 
-abbrev pub number_values : Number → List ℕ
-number_values (number.Refused n) = []
-number_values (number.Value v) = v ∷ []
+abbrev pub number_values : Reply ℕ → List ℕ
+number_values (Err n) = []
+number_values (Ok v) = v ∷ []
 
-unfoldable pub read_in : Tree → Grants → Images → ℕ → ℕ → Number
+unfoldable pub read_in : Tree → Grants → Images → ℕ → ℕ → Reply ℕ
 read_in t g im i register =
-    unless (refusal_by t g im (read_refusal t i register) 0) (number.Value (read_register (view t im i) register)) number.Refused
+    unless (refusal_by t g im (read_refusal t i register) 0) (Ok (read_register (view t im i) register)) Err
 
-unfoldable pub size_in : Tree → Grants → Images → ℕ → ℕ → Number
-size_in t g im i r = unless (refusal_by t g im (region_refusal t i r) 0) (number.Value (size_region t im i r)) number.Refused
+unfoldable pub size_in : Tree → Grants → Images → ℕ → ℕ → Reply ℕ
+size_in t g im i r = unless (refusal_by t g im (region_refusal t i r) 0) (Ok (size_region t im i r)) Err
 
 -- a refused write stores nothing
 unfoldable pub stored_in : Tree → Grants → Images → ℕ → ℕ → ℕ → ℕ → Images
@@ -91,18 +98,18 @@ unfoldable pub view_in : Tree → Grants → Images → ℕ → List ℕ
 view_in t g im i = unless (refusal_by t g im (view_refusal t i) 0) (view t im i) (λ n. [])
 
 -- both ends of a window or region
-unfoldable pub ends_in : Tree → Grants → Images → ℕ → ℕ → RangeReply
-ends_in t g im i k = unless (refusal_by t g im (window_refusal t i k) 0) (range-reply.Range (window_ends t im i k)) range-reply.Refused
+unfoldable pub ends_in : Tree → Grants → Images → ℕ → ℕ → Reply Range
+ends_in t g im i k = unless (refusal_by t g im (window_refusal t i k) 0) (Ok (window_ends t im i k)) Err
 
 -- the answer to an event that was run, with the images that it leaves
-abbrev pub ran : Result Answer → Result Reply
-ran a = gives (reply.Answered a.answer) a.after
+abbrev pub ran : Result Answer → Result (Reply Answer)
+ran a = gives (Ok a.answer) a.after
 
 -- an event of the seat that acts, the check too; a refusal leaves both images untouched
-unfoldable pub run_in : Tree → Acting → Images → Event → Result Reply
+unfoldable pub run_in : Tree → Acting → Images → Event → Result (Reply Answer)
 run_in t by im e =
-    unless (run_refusal t by im e) (ran (event_run t by im e)) (λ n. gives (reply.Refused n) im)
+    unless (run_refusal t by im e) (ran (event_run t by im e)) (λ n. gives (Err n) im)
 
 -- the check alone: 'A check changes no register'
-unfoldable pub check_in : Tree → Grants → Images → Reply
-check_in t g im = unless (refusal_by t g im 0 0) (reply.Answered (Checked (check t im))) reply.Refused
+unfoldable pub check_in : Tree → Grants → Images → Reply Answer
+check_in t g im = unless (refusal_by t g im 0 0) (Ok (Checked (check t im))) Err

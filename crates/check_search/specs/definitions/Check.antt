@@ -1,5 +1,5 @@
 -- The check by brute force: every bus, space, value and driver is tried, in the order of 01, 'The check'.
-use Rattle.std.specs.Prelude.{ℕ, zero, suc, ◌+◌, ◌-◌, Bool, true, false, List, [], ◌∷◌}
+use Rattle.std.specs.Prelude.{ℕ, zero, suc, ◌+◌, ◌-◌, List, [], ◌∷◌, Ok, Err}
 use Rattle.rack.specs.definitions.Tree.{Tree, agents, buses}
 use Rattle.register_image.specs.definitions.Image.{Images}
 use Rattle.claim_agent.specs.declared.Space.{Space}
@@ -8,17 +8,12 @@ use Rattle.claim_agent.specs.declared.Claimants.{Claimants}
 use Rattle.claim_agent.specs.declared.Claimants.TheVariants.{Nobody, One, Two}
 use Rattle.claim_agent.specs.definitions.Space.{last_of}
 use Rattle.claim_agent.specs.definitions.Claimants.{claimants, first_two}
-use Rattle.check_search.specs.declared.Report.{Report}
-use Rattle.check_search.specs.declared.Report.TheVariants.{Pass, Fault}
-
-unfoldable pub is_fault : Report → Bool
-is_fault Pass = false
-is_fault (Fault holder space value driver x y) = true
+use Rattle.check_search.specs.definitions.Report.{Report, Pass, fault}
 
 -- a fault, or what comes after
 abbrev pub or_else : Report → Report → Report
-or_else Pass r = r
-or_else (Fault holder space value driver x y) r = Fault holder space value driver x y
+or_else (Ok _) r = r
+or_else (Err f) r = Err f
 
 -- the first fault of a list
 unfoldable pub first_in : {A : Type 0} → (A → Report) → List A → Report
@@ -34,7 +29,7 @@ first_from f (suc left) a = or_else (f a) (first_from f left (a + 1))
 unfoldable pub shown : ℕ → Space → ℕ → ℕ → Claimants → Report
 shown bus space a driver Nobody = Pass
 shown bus space a driver (One x) = Pass
-shown bus space a driver (Two x y) = Fault bus space a driver x y
+shown bus space a driver (Two x y) = fault bus space a driver x y
 
 -- one driver of a bus at one address or bus number
 abbrev pub driven_by : Tree → Images → ℕ → Space → ℕ → ℕ → Report

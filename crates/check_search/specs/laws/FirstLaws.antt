@@ -1,43 +1,23 @@
 -- Laws of the first fault of a list or of a run of numbers.
-use Rattle.std.specs.Prelude.{◌≡◌, refl, ◌≢◌, Bool, true, false, cond, List, [], ◌∷◌, ℕ, ◌+◌, ◌-◌, ◌≤◌, ◌<◌}
+use Rattle.std.specs.Prelude.{◌≡◌, refl, ◌≢◌, cond, List, [], ◌∷◌, Ok, Err, ℕ, ◌+◌, ◌-◌, ◌≤◌, ◌<◌}
 use Rattle.std.proofs.Math.Path.{sym, ap}
-use Rattle.std.proofs.Common.{◌∙◌, true≢false, arith}
-use Rattle.std.proofs.lemmas.Bool.{false≢true}
+use Rattle.std.proofs.Common.{◌∙◌, arith}
 use borrow.Author.Tests.{eq-eqb, ne_eqb}
 use Rattle.rack.specs.laws.Bools.{tested}
 use Rattle.rack.specs.laws.CountLaws.{left_suc, left_none}
 use Rattle.rack.specs.definitions.Node.{is_bridge}
 use Rattle.rack.specs.definitions.Tree.{Tree, parent_of, nodes_from, nodes_on, bridges_from}
-use Rattle.check_search.specs.declared.Report.{Report}
-use Rattle.check_search.specs.declared.Report.TheVariants.{Pass, Fault}
-use Rattle.check_search.specs.definitions.Check.{is_fault, or_else, first_in, first_from}
+use Rattle.check_search.specs.declared.Fault.{Fault}
+use Rattle.check_search.specs.definitions.Report.{Report, Pass}
+use Rattle.check_search.specs.definitions.Check.{or_else, first_in, first_from}
 
--- what follows a fault does not matter
-pub fault_else : (r s : Report) → is_fault r ≡ true → or_else r s ≡ r
-unfolding is_fault
-fault_else Pass s e = absurd (false≢true e)
-fault_else (Fault holder space value driver x y) s e = refl
+-- a search that finds a fault ends with it: what follows does not matter
+pub else_found : {w r x : Report} {f : Fault} (s : Report) → w ≡ or_else x s → r ≡ x → r ≡ Err f → Err f ≡ w
+else_found s ew er e = sym (ew ∙ ap (λ (r : Report). or_else r s) (sym er ∙ e))
 
--- without a fault it is what follows that matters
-pub pass_else : (r s : Report) → is_fault r ≡ false → or_else r s ≡ s
-unfolding is_fault
-pass_else Pass s e = refl
-pass_else (Fault holder space value driver x y) s e = absurd (true≢false e)
-
--- a report without a fault passes
-pub pass_is : (r : Report) → is_fault r ≡ false → r ≡ Pass
-unfolding is_fault
-pass_is Pass e = refl
-pass_is (Fault holder space value driver x y) e = absurd (true≢false e)
-
--- a search that finds a fault ends with it
-pub else_found : {w r x : Report} {b : Bool} (s : Report) → w ≡ or_else x s → r ≡ x → b ≡ is_fault r → b ≡ true → r ≡ w
-else_found {w} {r} {x} s ew er eb e =
-    er ∙ sym (ew ∙ fault_else x s (sym (ap is_fault er) ∙ sym eb ∙ e))
-
--- and goes on where there is none
-pub else_next : {w r x : Report} {b : Bool} (s : Report) → w ≡ or_else x s → r ≡ x → b ≡ is_fault r → b ≡ false → w ≡ s
-else_next {w} {r} {x} s ew er eb e = ew ∙ pass_else x s (sym (ap is_fault er) ∙ sym eb ∙ e)
+-- and goes on where there is none: then it is what follows that matters
+pub else_next : {w r x : Report} (s : Report) → w ≡ or_else x s → r ≡ x → r ≡ Pass → w ≡ s
+else_next s ew er e = ew ∙ ap (λ (r : Report). or_else r s) (sym er ∙ e)
 
 -- the first of the numbers left, and the others
 pub from_step : (f : ℕ → Report) (m a : ℕ) → a < m → first_from f (m - a) a ≡ or_else (f a) (first_from f (m - (a + 1)) (a + 1))
@@ -56,8 +36,8 @@ in_step f x l = refl
 
 -- nothing follows the last
 pub else_pass : (r : Report) → or_else r Pass ≡ r
-else_pass Pass = refl
-else_pass (Fault holder space value driver x y) = refl
+else_pass (Ok _) = refl
+else_pass (Err f) = refl
 
 -- one member alone
 pub in_one : {A : Type 0} (f : A → Report) (x : A) → first_in f (x ∷ []) ≡ f x
@@ -65,12 +45,12 @@ unfolding first_in
 in_one f x = else_pass (f x)
 
 -- a member that was asked: its fault is the first, and without one the others are asked
-module _ {A : Type 0} (f : A → Report) (x : A) (l : List A) {r : Report} {b : Bool} (er : r ≡ f x) (eb : b ≡ is_fault r) where
-  pub in_found : b ≡ true → r ≡ first_in f (x ∷ l)
-  in_found q = else_found (first_in f l) (in_step f x l) er eb q
+module _ {A : Type 0} (f : A → Report) (x : A) (l : List A) {r : Report} (er : r ≡ f x) where
+  pub in_found : {e : Fault} → r ≡ Err e → Err e ≡ first_in f (x ∷ l)
+  in_found q = else_found (first_in f l) (in_step f x l) er q
 
-  pub in_next : b ≡ false → {s : Report} → s ≡ first_in f l → s ≡ first_in f (x ∷ l)
-  in_next q es = es ∙ sym (else_next (first_in f l) (in_step f x l) er eb q)
+  pub in_next : r ≡ Pass → {s : Report} → s ≡ first_in f l → s ≡ first_in f (x ∷ l)
+  in_next q es = es ∙ sym (else_next (first_in f l) (in_step f x l) er q)
 
 module _ (t : Tree) (bus n i : ℕ) where
   module _ {p : ℕ} (h : i < n) (parent : p ≡ parent_of t i) where
@@ -109,15 +89,15 @@ module _ (t : Tree) (bus : ℕ) (f : ℕ → Report) {n i : ℕ} (yet : NodesYet
     pub nodes_off : p ≢ bus → NodesYet t bus f n (i + 1)
     nodes_off ne = yet ∙ ap (first_in f) (off_first t bus n i h parent ne)
 
-    module _ {r : Report} {b : Bool} (e : p ≡ bus) (er : r ≡ f i) (eb : b ≡ is_fault r) where
+    module _ {r : Report} (e : p ≡ bus) (er : r ≡ f i) where
       step : first_in f (nodes_on t bus) ≡ or_else (f i) (first_in f (nodes_from t bus (i + 1) (n - (i + 1))))
       step = yet ∙ ap (first_in f) (on_first t bus n i h parent e) ∙ in_step f i (nodes_from t bus (i + 1) (n - (i + 1)))
 
-      pub nodes_found : b ≡ true → r ≡ first_in f (nodes_on t bus)
-      nodes_found q = else_found _ step er eb q
+      pub nodes_found : {x : Fault} → r ≡ Err x → Err x ≡ first_in f (nodes_on t bus)
+      nodes_found q = else_found _ step er q
 
-      pub nodes_next : b ≡ false → NodesYet t bus f n (i + 1)
-      nodes_next q = else_next _ step er eb q
+      pub nodes_next : r ≡ Pass → NodesYet t bus f n (i + 1)
+      nodes_next q = else_next _ step er q
 
 module _ (t : Tree) (f : ℕ → Report) (n i : ℕ) where
   -- of the nodes left, a bridge comes first, and a device says nothing

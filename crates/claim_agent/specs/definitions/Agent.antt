@@ -1,5 +1,5 @@
 -- An agent of a bus, decoded from its registers: all that its claims rest on.
-use Rattle.std.specs.Prelude.{ℕ, cond, List, eqb, get_or}
+use Rattle.std.specs.Prelude.{ℕ, cond, List, [], ◌∷◌, eqb, get_or}
 use Rattle.rack.specs.declared.Node.{Node}
 use Rattle.rack.specs.definitions.Node.{is_bridge, region_in}
 use Rattle.rack.specs.definitions.Tree.{Tree, host}
@@ -37,9 +37,7 @@ device_of n part =
     record {
       io = bit_at (get_or part COMMAND 0) COMMAND_IO;
       memory = bit_at (get_or part COMMAND 0) COMMAND_MEMORY;
-      first = area_in n part 0;
-      second = area_in n part 1;
-      third = area_in n part 2;
+      areas = area_in n part 0 ∷ area_in n part 1 ∷ area_in n part 2 ∷ [];
     }
 
 -- bridge g of a rack, with the options of its kind

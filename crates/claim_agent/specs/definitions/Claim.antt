@@ -1,23 +1,33 @@
 -- The one question: does this agent of this bus claim this address, with these registers? And how far upwards the answer stays.
-use Rattle.std.specs.Prelude.{ℕ, ◌-◌, Bool, true, false, not, ◌&&◌, ◌||◌, cond}
+use Rattle.std.specs.Prelude.{ℕ, ◌-◌, Bool, true, false, not, ◌&&◌, ◌||◌, cond, Option, Some, None, get_or}
 use Rattle.rack.specs.definitions.Tree.{Tree}
 use Rattle.register_image.specs.definitions.Image.{Images}
 use Rattle.rack.specs.declared.Range.{Range}
-use Rattle.claim_window.specs.definitions.Range.{within}
+use Rattle.claim_window.specs.definitions.Range.{empty, within}
 use Rattle.claim_window.specs.definitions.Cut.{cut_range}
 use Rattle.claim_window.specs.definitions.Inside.{inside_memory, inside_io, memory_until, io_until}
+use Rattle.claim_window.specs.declared.Area.{Area}
 use Rattle.claim_window.specs.definitions.Area.{holds}
 use Rattle.claim_agent.specs.declared.Space.{Space}
 use Rattle.claim_agent.specs.declared.Space.TheVariants.{Memory, Io, Configuration}
 use Rattle.claim_agent.specs.declared.BridgeClaims.{BridgeClaims}
 use Rattle.claim_agent.specs.declared.DeviceClaims.{DeviceClaims}
+use Rattle.claim_agent.specs.declared.Reached.{Reached}
 use Rattle.claim_agent.specs.declared.Agent.{Agent}
 use Rattle.claim_agent.specs.declared.Agent.TheVariants.{Primary, Secondary, Device, Host}
 use Rattle.claim_agent.specs.definitions.Agent.{agent_of}
 
+-- what stands where a device has no region
+abbrev pub no_area : Area
+no_area = record { io = false; range = empty }
+
+-- a device's area by its number
+abbrev pub area_at : DeviceClaims → ℕ → Area
+area_at d r = get_or d.areas r no_area
+
 -- an address in a device's regions of the I/O space, or of the memory space
 abbrev pub in_regions : DeviceClaims → Bool → ℕ → Bool
-in_regions d io a = holds d.first io a || (holds d.second io a || holds d.third io a)
+in_regions d io a = holds (area_at d 0) io a || (holds (area_at d 1) io a || holds (area_at d 2) io a)
 
 -- 01: 'On its primary bus a bridge claims addresses in its windows if command bit 0 (I/O) or 1 (memory) is set.' Type 1 is
 -- 'claimed by each bridge on that bus with secondary ≤ bus ≤ subordinate', whatever the command bits
@@ -62,7 +72,7 @@ windows_until b Configuration a e = cut_range b.buses a e
 
 unfoldable pub regions_until : DeviceClaims → ℕ → ℕ → ℕ
 regions_until d a e =
-    cut_range d.third.range a (cut_range d.second.range a (cut_range d.first.range a e))
+    cut_range (area_at d 2).range a (cut_range (area_at d 1).range a (cut_range (area_at d 0).range a e))
 
 unfoldable pub until_of : Agent → Space → ℕ → ℕ → ℕ
 until_of (Primary b) space a e = windows_until b space a e
@@ -72,10 +82,20 @@ until_of (Host h) space a e = cut_range h a e
 
 -- 01: 'where two of them share an address, it is one claimant and the lower-numbered region is the one reached'; 3 where none is
 unfoldable pub reached : DeviceClaims → Bool → ℕ → ℕ
-reached d io a = cond (holds d.first io a) 0 (cond (holds d.second io a) 1 (cond (holds d.third io a) 2 3))
+reached d io a = cond (holds (area_at d 0) io a) 0 (cond (holds (area_at d 1) io a) 1 (cond (holds (area_at d 2) io a) 2 3))
 
 -- the offset from that region's first address
 unfoldable pub offset_in : DeviceClaims → Bool → ℕ → ℕ
 offset_in d io a =
-    cond (holds d.first io a) (a - d.first.range.first)
-    (cond (holds d.second io a) (a - d.second.range.first) (cond (holds d.third io a) (a - d.third.range.first) 0))
+    cond (holds (area_at d 0) io a) (a - (area_at d 0).range.first)
+    (cond (holds (area_at d 1) io a) (a - (area_at d 1).range.first)
+    (cond (holds (area_at d 2) io a) (a - (area_at d 2).range.first) 0))
+
+-- of what a search for it gives: the region's number, 3 for none, and the offset, 0 for none
+abbrev pub region_number : Option Reached → ℕ
+region_number None = 3
+region_number (Some r) = r.region
+
+abbrev pub offset_number : Option Reached → ℕ
+offset_number None = 0
+offset_number (Some r) = r.offset

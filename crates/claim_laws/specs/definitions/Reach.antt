@@ -1,15 +1,8 @@
 -- The region of a device that an address reaches: the lowest that holds it.
-use Rattle.std.specs.Prelude.{◌≡◌, Bool, true, false, ℕ, zero, suc, ◌-◌, ◌<◌}
-use Rattle.claim_window.specs.declared.Area.{Area}
+use Rattle.std.specs.Prelude.{◌≡◌, Bool, true, false, ℕ, ◌-◌, ◌<◌}
 use Rattle.claim_window.specs.definitions.Area.{holds}
 use Rattle.claim_agent.specs.declared.DeviceClaims.{DeviceClaims}
-use Rattle.claim_agent.specs.definitions.Claim.{offset_in}
-
--- a device's area by its number
-abbrev pub area_at : DeviceClaims → ℕ → Area
-area_at d zero = d.first
-area_at d (suc zero) = d.second
-area_at d (suc (suc r)) = d.third
+use Rattle.claim_agent.specs.definitions.Claim.{area_at, offset_in}
 
 -- region r is reached at a
 pub record Reach (d : DeviceClaims) (io : Bool) (a r : ℕ) : Type 0 where

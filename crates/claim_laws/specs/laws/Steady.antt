@@ -16,7 +16,7 @@ use Rattle.claim_agent.specs.declared.DeviceClaims.{DeviceClaims}
 use Rattle.claim_agent.specs.declared.Agent.{Agent}
 use Rattle.claim_agent.specs.declared.Agent.TheVariants.{Primary, Secondary, Device, Host}
 use Rattle.claim_agent.specs.definitions.Agent.{agent_of}
-use Rattle.claim_agent.specs.definitions.Claim.{in_regions, primary_claims, secondary_claims, device_claims, host_claims, claims_of, claims, windows_until, regions_until, until_of, reached}
+use Rattle.claim_agent.specs.definitions.Claim.{area_at, in_regions, primary_claims, secondary_claims, device_claims, host_claims, claims_of, claims, windows_until, regions_until, until_of, reached}
 use Rattle.claim_laws.specs.laws.Kept.{Kept, kept_map, kept_two, kept_both, range_kept}
 use Rattle.claim_laws.specs.laws.LowRules.{low_rules}
 
@@ -61,22 +61,22 @@ secondary_kept b Configuration a e = kept_map (λ t. false) (range_kept b.buses 
 -- each of a device's three areas
 module _ (d : DeviceClaims) (io : Bool) (a e : ℕ) where
   e1 : ℕ
-  e1 = cut_range d.first.range a e
+  e1 = cut_range (area_at d 0).range a e
 
   e2 : ℕ
-  e2 = cut_range d.second.range a e1
+  e2 = cut_range (area_at d 1).range a e1
 
-  first_kept : Kept (holds d.first io) a e e1
+  first_kept : Kept (holds (area_at d 0) io) a e e1
   unfolding holds e1
-  first_kept = kept_map (λ t. (io && d.first.io || not io && not d.first.io) && t) (range_kept d.first.range a e)
+  first_kept = kept_map (λ t. (io && (area_at d 0).io || not io && not (area_at d 0).io) && t) (range_kept (area_at d 0).range a e)
 
-  second_kept : Kept (holds d.second io) a e1 e2
+  second_kept : Kept (holds (area_at d 1) io) a e1 e2
   unfolding holds e2
-  second_kept = kept_map (λ t. (io && d.second.io || not io && not d.second.io) && t) (range_kept d.second.range a e1)
+  second_kept = kept_map (λ t. (io && (area_at d 1).io || not io && not (area_at d 1).io) && t) (range_kept (area_at d 1).range a e1)
 
-  third_kept : Kept (holds d.third io) a e2 (regions_until d a e)
+  third_kept : Kept (holds (area_at d 2) io) a e2 (regions_until d a e)
   unfolding holds regions_until e1 e2
-  third_kept = kept_map (λ t. (io && d.third.io || not io && not d.third.io) && t) (range_kept d.third.range a e2)
+  third_kept = kept_map (λ t. (io && (area_at d 2).io || not io && not (area_at d 2).io) && t) (range_kept (area_at d 2).range a e2)
 
   -- an address of its regions
   pub regions_kept : Kept (in_regions d io) a e (regions_until d a e)

@@ -1,11 +1,10 @@
 -- What demand 3 says of events over the calls.
-use Rattle.std.specs.Prelude.{ℕ, ◌^◌, ◌≤◌, ◌<◌, ◌≡◌, true, false, ◌⊎◌, eqb, List, [], ◌∷◌, length}
+use Rattle.std.specs.Prelude.{ℕ, ◌^◌, ◌≤◌, ◌<◌, ◌≡◌, true, false, ◌⊎◌, eqb, List, [], ◌∷◌, length, Ok, Err}
 use Rattle.file_record.specs.declared.Event.{Event}
 use Rattle.file_record.specs.declared.Event.TheVariants.{Write, Read, Memory, Io, Check, Seat}
 use Rattle.event_run.specs.declared.Answer.{Answer}
 use Rattle.event_run.specs.declared.Answer.TheVariants.{Ended}
 use Rattle.event_run.specs.definitions.Answers.{answer_number, crossings_of}
-use Rattle.call_table.specs.declared.Reply.{Reply}
 use Rattle.rack.specs.definitions.Tree.{Tree, host}
 use Rattle.seat.specs.definitions.Grants.{Grants, Acting, acting, is_granted, may_write}
 use Rattle.register_image.specs.definitions.Image.{Images, Result, gives}
@@ -14,9 +13,8 @@ use Rattle.route_bus.specs.declared.Access.{Access}
 use Rattle.route_bus.specs.declared.Route.{Route}
 use Rattle.event_run.specs.declared.Ending.TheVariants.{Special, Denied, Silent}
 use Rattle.event_run.specs.definitions.Run.{configuration, addressed, ended}
-use Rattle.call_table.specs.declared.Reply.TheVariants as reply
 use Rattle.demand_passed.specs.definitions.Way.{Selected, Went, start_of, Silenced}
-use Rattle.call_table.specs.definitions.Call.{run_refusal, run_in}
+use Rattle.call_table.specs.definitions.Call.{Reply, run_refusal, run_in}
 use Rattle.route.specs.definitions.Route.{drives}
 use Rattle.route_bus.specs.definitions.Look.{is_special_cycle}
 use Rattle.route_laws.specs.definitions.Path.{ToType0}
@@ -31,14 +29,14 @@ Fits Check = Unit {0}
 Fits (Seat seat) = Unit {0}
 
 -- 0 is a refusal's number
-abbrev pub reply_number : Reply → ℕ
-reply_number (reply.Refused n) = 0
-reply_number (reply.Answered a) = answer_number a
+abbrev pub reply_number : Reply Answer → ℕ
+reply_number (Err n) = 0
+reply_number (Ok a) = answer_number a
 
 -- the crossings that a reply carries
-abbrev pub crossings : Reply → ℕ
-crossings (reply.Refused n) = 0
-crossings (reply.Answered a) = crossings_of a
+abbrev pub crossings : Reply Answer → ℕ
+crossings (Err n) = 0
+crossings (Ok a) = crossings_of a
 
 -- 01: 'An access starts on the bus its initiator sits on, a configuration access and one of the host on the root bus'
 abbrev pub start_bus : Tree → Event → ℕ
@@ -104,8 +102,8 @@ MayNotDrive t im Check = ⊥
 MayNotDrive t im (Seat seat) = ⊥
 
 -- nothing is crossed and no image changes
-abbrev pub silent_reply : Images → Result Reply
-silent_reply im = gives (reply.Answered (Ended 0 Silent)) im
+abbrev pub silent_reply : Images → Result (Reply Answer)
+silent_reply im = gives (Ok (Ended 0 Silent)) im
 
 -- 02, E4: the event is a special cycle and comes over these bridges to a Type 0 on the bus of that holder
 abbrev pub SpecialCycle : Tree → Images → Event → List ℕ → ℕ → Type 0
@@ -119,8 +117,8 @@ SpecialCycle t im Check gs holder = ⊥
 SpecialCycle t im (Seat seat) gs holder = ⊥
 
 -- 02, E4: 'It ends as `special` with crossings and holder', and no image changes
-abbrev pub special_reply : Images → List ℕ → ℕ → Result Reply
-special_reply im gs holder = gives (reply.Answered (Ended (length gs) (Special holder))) im
+abbrev pub special_reply : Images → List ℕ → ℕ → Result (Reply Answer)
+special_reply im gs holder = gives (Ok (Ended (length gs) (Special holder))) im
 
 -- 02, E1: 'in demand 3 it counts as ended at its one owner': a configuration access comes over these bridges to a Type 0 on the bus of that
 -- holder, and there to node g, the one of that device number, function 0
@@ -144,8 +142,8 @@ DeniedWrite t by im Check gs holder g = ⊥
 DeniedWrite t by im (Seat seat) gs holder g = ⊥
 
 -- 'ends as `denied` with its crossings, and stores nothing'
-abbrev pub denied_reply : Images → ℕ → Result Reply
-denied_reply im crossings = gives (reply.Answered (Ended crossings Denied)) im
+abbrev pub denied_reply : Images → ℕ → Result (Reply Answer)
+denied_reply im crossings = gives (Ok (Ended crossings Denied)) im
 
 -- where seat 0's write has come to a node, with so many crossings, a seat's is denied if the register is below 40h and outside its grant,
 -- with as many and no change, and ends as seat 0's if it may be written

@@ -1,5 +1,7 @@
 -- What request E5 says of events over the calls. Sentences are those of document 02, E5.
-use Rattle.std.specs.Prelude.{◌≡◌, true, false, ◌⊎◌, List, ℕ, ◌<◌, length}
+use Rattle.call_table.specs.definitions.Call.{Reply}
+use Rattle.event_run.specs.declared.Answer.{Answer}
+use Rattle.std.specs.Prelude.{◌≡◌, true, false, ◌⊎◌, List, ℕ, ◌<◌, length, Ok}
 use Rattle.rack.specs.definitions.Tree.{Tree}
 use Rattle.register_image.specs.definitions.Image.{Images, Result}
 use Rattle.bus_reset.specs.definitions.Held.{held_bus, is_held}
@@ -14,8 +16,6 @@ use Rattle.event_run.specs.declared.Ending.TheVariants.{Unclaimed}
 use Rattle.event_run.specs.declared.Answer.TheVariants.{Ended}
 use Rattle.event_run.specs.definitions.Run.{configuration}
 use Rattle.event_laws.specs.definitions.Stores.{Stores}
-use Rattle.call_table.specs.declared.Reply.{Reply}
-use Rattle.call_table.specs.declared.Reply.TheVariants as reply
 use Rattle.demand_calls.specs.definitions.Events.{reply_number, silent_reply, AtOwner}
 
 -- the event is a configuration write that came over these bridges to the node of that device number, function 0, and leaves what the
@@ -52,7 +52,7 @@ ToHeldBus t im Check gs holder = ⊥
 ToHeldBus t im (Seat seat) gs holder = ⊥
 
 -- an event that is accepted, with what it answers and leaves
-pub record Resets (t : Tree) (im : Images) (e : Event) (r : Result Reply) : Type 0 where
+pub record Resets (t : Tree) (im : Images) (e : Event) (r : Result (Reply Answer)) : Type 0 where
   -- 'Writing 1, directly too': a write that ends `stored`, number 2, does what a direct write does, and 'only this write changes bytes
   -- outside its node's part': every other event changes status bits alone
   pub stored : reply_number r.answer ≡ 2 → (gs : List ℕ) × (holder : ℕ) × (g : ℕ) × StoredAt t im e gs holder g r.after
@@ -61,4 +61,4 @@ pub record Resets (t : Tree) (im : Images) (e : Event) (r : Result Reply) : Type
   pub silent : HeldInitiator t im e → r ≡ silent_reply im
   -- 'configuration finds nobody on a held bus': it ends unclaimed there
   pub unclaimed : (gs : List ℕ) (holder : ℕ) → ToHeldBus t im e gs holder
-      → (o : Outcome) × (r.answer ≡ reply.Answered (Ended (length gs) (Unclaimed holder o)))
+      → (o : Outcome) × (r.answer ≡ Ok (Ended (length gs) (Unclaimed holder o)))

@@ -1,5 +1,5 @@
 -- Demand 3 over the call `rack_check` from C.
-use Rattle.std.specs.Prelude.{◌≡◌, refl, false, cond, List, [], ◌∷◌, ℕ, eqb, get_or}
+use Rattle.std.specs.Prelude.{◌≡◌, refl, false, cond, List, [], ◌∷◌, Ok, Err, ℕ, eqb, get_or}
 use Rattle.std.proofs.Common.{sym, ap, ◌∙◌, arith, eqb-true}
 use Rattle.std.proofs.lemmas.Bool.{eqb-false}
 use Rattle.rack.specs.laws.Bools.{tested}
@@ -8,13 +8,11 @@ use Rattle.bus_reset.specs.definitions.Agreement.{image_refusal}
 use Rattle.claim_agent.specs.declared.Space.{Space}
 use Rattle.claim_agent.specs.declared.Space.TheVariants.{Memory, Io, Configuration}
 use Rattle.claim_agent.specs.definitions.Space.{space_number}
-use Rattle.check_search.specs.declared.Report.{Report}
-use Rattle.check_search.specs.declared.Report.TheVariants.{Pass, Fault}
+use Rattle.check_search.specs.definitions.Report.{Report, Pass, fault}
 use Rattle.check_search.specs.definitions.Check.{check}
 use Rattle.demand_passed.specs.laws.Clear.{passed, passes, faulted}
 use Rattle.file_record.specs.definitions.Load.{rack_alone}
 use Rattle.event_run.specs.declared.Answer.TheVariants.{Checked}
-use Rattle.call_table.specs.declared.Reply.TheVariants.{Answered}
 use Rattle.call_numbers.specs.definitions.Numbers.{eight, numbers_of}
 use Rattle.call_numbers.specs.definitions.Called.{Called, refused_call}
 use Rattle.muzgante.specs.definitions.Called.{replied_call, rack_check}
@@ -25,16 +23,21 @@ use Rattle.demand_calls.specs.definitions.CCalls.{number}
 
 -- the numbers of a report tell it
 told_pass : (r : Report) → get_or (numbers_of (Checked r)) 0 0 ≡ 8 → r ≡ Pass
-told_pass Pass n = refl
-told_pass (Fault bus space a driver x y) n = let z : ◌≡◌ {A = ℕ} 9 8 = n in absurd (omega arith)
+told_pass (Ok _) n = refl
+told_pass (Err f) n = let z : ◌≡◌ {A = ℕ} 9 8 = n in absurd (omega arith)
 
 told_fault : (bus : ℕ) (space : Space) (a driver x y : ℕ) (r : Report)
-    → numbers_of (Checked r) ≡ eight 9 (bus ∷ space_number space ∷ a ∷ driver ∷ x ∷ y ∷ []) → r ≡ Fault bus space a driver x y
-told_fault bus space a driver x y Pass n =
+    → numbers_of (Checked r) ≡ eight 9 (bus ∷ space_number space ∷ a ∷ driver ∷ x ∷ y ∷ []) → r ≡ fault bus space a driver x y
+told_fault bus space a driver x y (Ok _) n =
     let z : ◌≡◌ {A = ℕ} 8 9 = ap (λ (l : List ℕ). get_or l 0 0) n in absurd (omega arith)
-told_fault bus space a driver x y (Fault bus' space' a' driver' x' y') n =
-    let e : space' ≡ space = sym (back space') ∙ ap at (ap (λ (l : List ℕ). get_or l 2 0) n) ∙ back space in
-    cc
+told_fault bus space a driver x y (Err f) n =
+    let e : f.space ≡ space = sym (back f.space) ∙ ap at (ap (λ (l : List ℕ). get_or l 2 0) n) ∙ back space in
+    let h : f.holder ≡ bus = ap (λ (l : List ℕ). get_or l 1 0) n in
+    let v : f.value ≡ a = ap (λ (l : List ℕ). get_or l 3 0) n in
+    let d : f.driver ≡ driver = ap (λ (l : List ℕ). get_or l 4 0) n in
+    let p : f.first ≡ x = ap (λ (l : List ℕ). get_or l 5 0) n in
+    let q : f.second ≡ y = ap (λ (l : List ℕ). get_or l 6 0) n in
+    rw (← h, ← e, ← v, ← d, ← p, ← q) refl
   where
     at : ℕ → Space
     at n = cond (eqb n 0) Memory (cond (eqb n 1) Io Configuration)
@@ -76,7 +79,7 @@ module _ (b : List ℕ) (im : Images) where
       → OneClaimant (rack_alone b).tree im → rack_check b im ≡ record { code = 0; numbers = eight 8 []; after = im }
   c_check_passes z y w o =
       ((check_refuses b im).accepts z refl y refl w refl).0
-      ∙ ap (λ (r : Report). replied_call (gives (Answered (Checked r)) im)) (passes (rack_alone b).tree im o)
+      ∙ ap (λ (r : Report). replied_call (gives (Ok (Checked r)) im)) (passes (rack_alone b).tree im o)
 
   -- 'If it does not pass, it shows the clash, driver and two claimants that document 01 names first'
   pub c_check_faulted : (bus : ℕ) (space : Space) (a driver x y : ℕ)
@@ -97,5 +100,5 @@ module _ (b : List ℕ) (im : Images) where
       shows : (r : Report) → (rack_check b im).numbers ≡ numbers_of (Checked r)
           → (bus : ℕ) × (space : Space) × (a : ℕ) × (driver : ℕ) × (x : ℕ) × (y : ℕ)
           × ((rack_check b im).numbers ≡ eight 9 (bus ∷ space_number space ∷ a ∷ driver ∷ x ∷ y ∷ []))
-      shows Pass e = absurd (ne (ap (λ (l : List ℕ). get_or l 0 0) e))
-      shows (Fault bus space a driver x y) e = (bus, space, a, driver, x, y, e)
+      shows (Ok _) e = absurd (ne (ap (λ (l : List ℕ). get_or l 0 0) e))
+      shows (Err f) e = (f.holder, f.space, f.value, f.driver, f.first, f.second, e)

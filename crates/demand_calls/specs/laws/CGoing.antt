@@ -1,5 +1,5 @@
 -- Demand 3 over the call `rack_run` from C.
-use Rattle.std.specs.Prelude.{◌≡◌, refl, List, ℕ, ◌+◌, ◌^◌, ◌≤◌, ◌<◌, eqb, get_or}
+use Rattle.std.specs.Prelude.{◌≡◌, refl, List, Ok, Err, ℕ, ◌+◌, ◌^◌, ◌≤◌, ◌<◌, eqb, get_or}
 use Rattle.std.proofs.Math.Path.{sym, ap}
 use Rattle.std.proofs.Common.{◌∙◌, inl, inr, arith, le_refl}
 use Rattle.rack.specs.laws.Bools.{tested}
@@ -8,7 +8,7 @@ use Rattle.rack.specs.definitions.Tree.{depth, greatest_depth}
 use Rattle.seat.specs.definitions.Grants.{acting}
 use Rattle.register_image.specs.definitions.Image.{Images, Result}
 use Rattle.claim_laws.specs.definitions.Same.{SameButStatus}
-use Rattle.check_search.specs.declared.Report.TheVariants.{Pass, Fault}
+use Rattle.check_search.specs.definitions.Report.{Pass}
 use Rattle.file_record.specs.definitions.Number.{byte_in, dword_in, qword_in}
 use Rattle.file_record.specs.declared.Event.{Event}
 use Rattle.file_record.specs.declared.Event.TheVariants.{Check}
@@ -19,9 +19,7 @@ use Rattle.event_run.specs.declared.Ending.{Ending}
 use Rattle.event_run.specs.declared.Ending.TheVariants.{Data, Stored, Owner, Host, Unclaimed, Clash, Special, Silent, Denied}
 use Rattle.event_run.specs.declared.Answer.{Answer}
 use Rattle.event_run.specs.declared.Answer.TheVariants.{Ended, Checked, Seated}
-use Rattle.call_table.specs.declared.Reply.{Reply}
-use Rattle.call_table.specs.declared.Reply.TheVariants as reply
-use Rattle.call_table.specs.definitions.Call.{event_refusal, seat_refusal, run_refusal, ran, run_in, check_in}
+use Rattle.call_table.specs.definitions.Call.{Reply, event_refusal, seat_refusal, run_refusal, ran, run_in, check_in}
 use Rattle.call_numbers.specs.definitions.Numbers.{numbers_of, reply_numbers}
 use Rattle.call_numbers.specs.definitions.Called.{Called}
 use Rattle.muzgante.specs.definitions.Called.{replied_call, rack_run, rack_check}
@@ -54,13 +52,13 @@ event_fits b bytes o =
     qword_fits o = omega (arith, dword_fits o, dword_fits (o + 4))
 
 -- the first two numbers of a reply
-first : (r : Reply) → get_or (reply_numbers r) 0 0 ≡ reply_number r
-first (reply.Refused n) = refl
-first (reply.Answered a) = refl
+first : (r : Reply Answer) → get_or (reply_numbers r) 0 0 ≡ reply_number r
+first (Err n) = refl
+first (Ok a) = refl
 
-second : (r : Reply) → Carries (reply_number r) → get_or (reply_numbers r) 1 0 ≤ crossings r
-second (reply.Refused n) l = le_refl 0
-second (reply.Answered (Ended c e)) l = ending e
+second : (r : Reply Answer) → Carries (reply_number r) → get_or (reply_numbers r) 1 0 ≤ crossings r
+second (Err n) l = le_refl 0
+second (Ok (Ended c e)) l = ending e
   where
     ending : (e : Ending) → get_or (numbers_of (Ended c e)) 1 0 ≤ c
     ending (Data v) = le_refl c
@@ -72,13 +70,13 @@ second (reply.Answered (Ended c e)) l = ending e
     ending (Special h) = le_refl c
     ending Silent = omega arith
     ending Denied = le_refl c
-second (reply.Answered (Checked Pass)) l = le_refl 0
-second (reply.Answered (Checked (Fault bus space a driver x y))) (inl (inl l)) = absurd (omega arith)
-second (reply.Answered (Checked (Fault bus space a driver x y))) (inl (inr l)) = absurd (omega arith)
-second (reply.Answered (Checked (Fault bus space a driver x y))) (inr l) = absurd (omega arith)
-second (reply.Answered (Seated seat)) (inl (inl l)) = absurd (omega arith)
-second (reply.Answered (Seated seat)) (inl (inr l)) = absurd (omega arith)
-second (reply.Answered (Seated seat)) (inr l) = absurd (omega arith)
+second (Ok (Checked (Ok _))) l = le_refl 0
+second (Ok (Checked (Err f))) (inl (inl l)) = absurd (omega arith)
+second (Ok (Checked (Err f))) (inl (inr l)) = absurd (omega arith)
+second (Ok (Checked (Err f))) (inr l) = absurd (omega arith)
+second (Ok (Seated seat)) (inl (inl l)) = absurd (omega arith)
+second (Ok (Seated seat)) (inl (inr l)) = absurd (omega arith)
+second (Ok (Seated seat)) (inr l) = absurd (omega arith)
 
 module _ (b : List ℕ) (seat : ℕ) (event : List ℕ) (im : Images) where
   -- what an accepted run hands back, and what it says
@@ -134,7 +132,7 @@ module _ (b : List ℕ) (seat : ℕ) (event : List ℕ) (im : Images) where
 -- 'In a passed rack, with the registers it passed with, status bits aside'
 module _ (b : List ℕ) (seat : ℕ) (event : List ℕ) (im im' : Images) (pass : number (rack_check b im) ≡ 8) (same : SameButStatus (rack_alone b).tree im im')
     (bytes : (k : ℕ) → get_or event k 0 < 256) where
-  passed : check_in (rack_alone b).tree (rack_alone b).grants im ≡ reply.Answered (Checked Pass)
+  passed : check_in (rack_alone b).tree (rack_alone b).grants im ≡ Ok (Checked Pass)
   passed =
       let s = c_check_passed b im pass in
       check_passes (rack_alone b).tree (rack_alone b).grants im (alone_accepted b s.0) s.1 s.2 s.3

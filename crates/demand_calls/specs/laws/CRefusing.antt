@@ -1,5 +1,7 @@
 -- Demand 1 over the calls from C: in which order they refuse, when they accept, and that 'a refusal leaves every image untouched'.
-use Rattle.std.specs.Prelude.{◌≡◌, true, false, List, ℕ, eqb}
+use Rattle.event_run.specs.declared.Answer.{Answer}
+use Rattle.rack.specs.declared.Range.{Range}
+use Rattle.std.specs.Prelude.{◌≡◌, true, false, List, ℕ, eqb, Ok}
 use Rattle.std.proofs.Math.Path.{refl, ap}
 use Rattle.std.proofs.Common.{sym, ◌∙◌, arith, eqb-true}
 use Rattle.std.proofs.lemmas.Bool.{eqb-false}
@@ -17,11 +19,7 @@ use Rattle.file_record.specs.definitions.Load.{rack_alone}
 use Rattle.file_record.specs.laws.LoadLaws.{alone_accepted}
 use Rattle.event_run.specs.declared.Answer.TheVariants.{Checked}
 use Rattle.event_run.specs.definitions.Run.{event_run}
-use Rattle.call_table.specs.declared.Reply.{Reply}
-use Rattle.call_table.specs.declared.Reply.TheVariants.{Answered}
-use Rattle.call_table.specs.declared.RangeReply.{RangeReply}
-use Rattle.call_table.specs.declared.RangeReply.TheVariants as range-reply
-use Rattle.call_table.specs.definitions.Call.{refusal_by, window_refusal, event_refusal, seat_refusal, run_refusal, ran, run_in, check_in, ends_in}
+use Rattle.call_table.specs.definitions.Call.{Reply, refusal_by, window_refusal, event_refusal, seat_refusal, run_refusal, ran, run_in, check_in, ends_in}
 use Rattle.call_numbers.specs.definitions.Numbers.{zeros}
 use Rattle.call_numbers.specs.definitions.Called.{Called, refused_call}
 use Rattle.muzgante.specs.definitions.Called.{replied_call, ends_call, rack_run, rack_check, rack_window, reset_refusal, rack_reset}
@@ -115,14 +113,14 @@ module _ (b : List ℕ) (im : Images) where
 
   -- rack_check, accepted: what the check says
   pub check_refuses : InOrder b 0 im 0 0
-      (replied_call (gives (Answered (Checked (check (rack_alone b).tree im))) im)) (rack_check b im)
+      (replied_call (gives (Ok (Checked (check (rack_alone b).tree im))) im)) (rack_check b im)
   unfolding rack_check outcome check_in
   check_refuses =
-      in_order b 0 im 0 0 (replied_call (gives (Answered (Checked (check (rack_alone b).tree im))) im)) refl
+      in_order b 0 im 0 0 (replied_call (gives (Ok (Checked (check (rack_alone b).tree im))) im)) refl
       (ap (λ (n : ℕ). unless n (replied_call (gives (check_in (rack_alone b).tree (rack_alone b).grants im) im)) (λ m. refused_call m im))
       (nothing (rack_alone b).refusal)
       ∙ ap (λ (a : Called). unless ((rack_alone b).refusal or 0) a (λ n. refused_call n im))
-      (made (λ (r : Reply). replied_call (gives r im)) (call_refusal b im 0 0) _ _))
+      (made (λ (r : Reply Answer). replied_call (gives r im)) (call_refusal b im 0 0) _ _))
 
   -- 'A check changes no register'
   pub check_keeps : (rack_check b im).after ≡ im
@@ -131,15 +129,15 @@ module _ (b : List ℕ) (im : Images) where
 
   -- rack_window, accepted: both ends of the window or region
   pub window_refuses : (i k : ℕ) → InOrder b 0 im (window_refusal (rack_alone b).tree i k) 0
-      (ends_call (range-reply.Range (window_ends (rack_alone b).tree im i k)) im) (rack_window b im i k)
+      (ends_call (Ok (window_ends (rack_alone b).tree im i k)) im) (rack_window b im i k)
   unfolding rack_window outcome ends_in
   window_refuses i k =
-      in_order b 0 im (window_refusal (rack_alone b).tree i k) 0 (ends_call (range-reply.Range (window_ends (rack_alone b).tree im i k)) im)
+      in_order b 0 im (window_refusal (rack_alone b).tree i k) 0 (ends_call (Ok (window_ends (rack_alone b).tree im i k)) im)
       refl
       (ap (λ (n : ℕ). unless n (ends_call (ends_in (rack_alone b).tree (rack_alone b).grants im i k) im) (λ m. refused_call m im))
       (nothing (rack_alone b).refusal)
       ∙ ap (λ (a : Called). unless ((rack_alone b).refusal or 0) a (λ n. refused_call n im))
-      (made (λ (e : RangeReply). ends_call e im) (call_refusal b im (window_refusal (rack_alone b).tree i k) 0) _ _))
+      (made (λ (e : Reply Range). ends_call e im) (call_refusal b im (window_refusal (rack_alone b).tree i k) 0) _ _))
 
   pub window_keeps : (i k : ℕ) → (rack_window b im i k).after ≡ im
   unfolding rack_window unless

@@ -1,7 +1,8 @@
 -- Demand 3 over the calls `run_check` and `run_event`.
+use Rattle.event_run.specs.declared.Answer.{Answer}
 use Rattle.std.proofs.Math.Path.{◌≡◌, refl, ap}
 use Rattle.std.proofs.Common.{sym, ◌∙◌, inl, inr, eqb-true, ltb-true}
-use Rattle.std.specs.Prelude.{Bool, not, ◌&&◌, ℕ, ltb, eqb}
+use Rattle.std.specs.Prelude.{Bool, not, ◌&&◌, ℕ, ltb, eqb, Ok, Err}
 use Rattle.std.proofs.Math.Bool.{true, false}
 use native.Mathlib.Omega.{arith}
 use Rattle.std.proofs.lemmas.Bool.{eqb-false}
@@ -22,8 +23,7 @@ use Rattle.claim_laws.specs.definitions.Same.{SameButStatus}
 use Rattle.route_bus.specs.declared.Access.{Access}
 use Rattle.route_bus.specs.declared.Route.{Route}
 use Rattle.route.specs.definitions.Route.{configure, access}
-use Rattle.check_search.specs.declared.Report.{Report}
-use Rattle.check_search.specs.declared.Report.TheVariants.{Pass, Fault}
+use Rattle.check_search.specs.definitions.Report.{Report, Pass, fault}
 use Rattle.check_search.specs.definitions.Check.{check}
 use Rattle.demand_passed.specs.laws.Clear.{passed, passes, faulted}
 use Rattle.demand_passed.specs.laws.PassedRack.{access_no_clash, configure_no_clash}
@@ -33,9 +33,7 @@ use Rattle.file_record.specs.definitions.Events.{initiates, access_wrong, event_
 use Rattle.event_run.specs.declared.Answer.TheVariants.{Checked}
 use Rattle.event_run.specs.definitions.Answers.{answer_number}
 use Rattle.event_run.specs.definitions.Run.{configuration, addressed, ended, event_run}
-use Rattle.call_table.specs.declared.Reply.{Reply}
-use Rattle.call_table.specs.declared.Reply.TheVariants.{Refused, Answered}
-use Rattle.call_table.specs.definitions.Call.{refusal_by, run_refusal, run_in, check_in}
+use Rattle.call_table.specs.definitions.Call.{Reply, refusal_by, run_refusal, run_in, check_in}
 use Rattle.route_laws.specs.definitions.Ends.{is_clash}
 use Rattle.demand_calls.specs.laws.Numbered.{ended_number, checked_number}
 use Rattle.demand_calls.specs.laws.Refusing.{accepted, accepts, field_right, event_untouched, event_runs, event_accepted}
@@ -46,11 +44,11 @@ use Rattle.demand_calls.specs.definitions.Events.{Fits, reply_number}
 
 module _ (t : Tree) (g : Grants) (im : Images) where
   -- a check that is not refused says what the check says
-  pub check_accepted : refusal_by t g im 0 0 ≡ 0 → check_in t g im ≡ Answered (Checked (check t im))
+  pub check_accepted : refusal_by t g im 0 0 ≡ 0 → check_in t g im ≡ Ok (Checked (check t im))
   unfolding check_in
   check_accepted z = unless_none _ _ z
 
-  pub check_refused : (refusal_by t g im 0 0 ≡ 0 → ⊥) → check_in t g im ≡ Refused (refusal_by t g im 0 0)
+  pub check_refused : (refusal_by t g im 0 0 ≡ 0 → ⊥) → check_in t g im ≡ Err (refusal_by t g im 0 0)
   unfolding check_in
   check_refused ne = unless_number _ _ ne
 
@@ -66,36 +64,36 @@ module _ (t : Tree) (g : Grants) (im : Images) where
   event_is_check seat z =
       let a = event_accepted t (acting g seat) im Check z in
       event_runs t (acting g seat) im Check z
-      ∙ ap (λ (r : Reply). gives r im) (sym (check_accepted (accepts t g im 0 0 a.0 a.1 refl a.3 refl)))
+      ∙ ap (λ (r : Reply Answer). gives r im) (sym (check_accepted (accepts t g im 0 0 a.0 a.1 refl a.3 refl)))
 
   -- one that answers was accepted
-  pub said : (r : Report) → check_in t g im ≡ Answered (Checked r)
+  pub said : (r : Report) → check_in t g im ≡ Ok (Checked r)
       → (rack_refusal t ≡ 0) × (image_refusal t im ≡ 0) × (g.wrong ≡ false) × (check t im ≡ r)
   said r e =
       tested (eqb (refusal_by t g im 0 0) 0)
       (λ q.
       let z = eqb-true (refusal_by t g im 0 0) 0 q in
-      let p : Answered (Checked (check t im)) ≡ Answered (Checked r) = sym (check_accepted z) ∙ e in
+      let p : ◌≡◌ {A = Reply Answer} (Ok (Checked (check t im))) (Ok (Checked r)) = sym (check_accepted z) ∙ e in
       let a = accepted t g im 0 0 z in
       (a.0, a.1, a.3, cc))
       (λ q.
-      let p : Refused (refusal_by t g im 0 0) ≡ Answered (Checked r) = sym (check_refused (eqb-false (refusal_by t g im 0 0) 0 q)) ∙ e in
+      let p : ◌≡◌ {A = Reply Answer} (Err (refusal_by t g im 0 0)) (Ok (Checked r)) = sym (check_refused (eqb-false (refusal_by t g im 0 0) 0 q)) ∙ e in
       let n : ◌≡◌ {A = ℕ} 0 1 = cc in
       absurd (omega arith))
 
   -- 'an accepted check passes exactly when the count of claimants is at most one on every bus, ..'
-  pub check_passed : check_in t g im ≡ Answered (Checked Pass) → (rack_refusal t ≡ 0) × (image_refusal t im ≡ 0) × (g.wrong ≡ false) × OneClaimant t im
+  pub check_passed : check_in t g im ≡ Ok (Checked Pass) → (rack_refusal t ≡ 0) × (image_refusal t im ≡ 0) × (g.wrong ≡ false) × OneClaimant t im
   check_passed e =
       let s = said Pass e in (s.0, s.1, s.2, passed t im s.3)
 
-  pub check_passes : rack_refusal t ≡ 0 → image_refusal t im ≡ 0 → g.wrong ≡ false → OneClaimant t im → check_in t g im ≡ Answered (Checked Pass)
-  check_passes z y w o = check_accepted (accepts t g im 0 0 z y refl w refl) ∙ ap (λ (r : Report). Answered (Checked r)) (passes t im o)
+  pub check_passes : rack_refusal t ≡ 0 → image_refusal t im ≡ 0 → g.wrong ≡ false → OneClaimant t im → check_in t g im ≡ Ok (Checked Pass)
+  check_passes z y w o = check_accepted (accepts t g im 0 0 z y refl w refl) ∙ ap (λ (r : Report). Ok (Checked r)) (passes t im o)
 
   -- 'If it does not pass, it shows the clash, driver and two claimants that document 01 names first'
-  pub check_faulted : (bus : ℕ) (space : Space) (a driver x y : ℕ) → check_in t g im ≡ Answered (Checked (Fault bus space a driver x y))
+  pub check_faulted : (bus : ℕ) (space : Space) (a driver x y : ℕ) → check_in t g im ≡ Ok (Checked (fault bus space a driver x y))
       → FirstFault t im bus space a driver x y
   check_faulted bus space a driver x y e =
-      let s = said (Fault bus space a driver x y) e in faulted t im bus space a driver x y s.3
+      let s = said (fault bus space a driver x y) e in faulted t im bus space a driver x y s.3
 
 module _ (t : Tree) where
   -- an initiator that 13 accepts is the host or a device
@@ -119,7 +117,7 @@ module _ (t : Tree) where
 -- a tree that stores what its nodes say, once it is accepted: that of a decoded rack does (`accepted-stored`), as does one that is read
 -- (`alone-stored`)
 module _ (t : Tree) (by : Acting) (stored : rack_refusal t ≡ 0 → Stored t) (im im' : Images)
-    (pass : check_in t by.grants im ≡ Answered (Checked Pass))
+    (pass : check_in t by.grants im ≡ Ok (Checked Pass))
     (same : SameButStatus t im im') where
   -- an access that does not clash does not answer so
   routed_no_clash : (x : Access) (o : Result Route) → is_clash o.answer.end ≡ false → answer_number (ended t by x o).answer ≡ 6 → ⊥

@@ -1,6 +1,6 @@
 -- Demand 3 over the calls on a decoded rack, `run_check` and `run_event`: a decoded rack that is accepted stores what its nodes say, so
 -- nothing is asked of it but that it passed.
-use Rattle.std.specs.Prelude.{◌≡◌, List, ℕ, ◌+◌, ◌≤◌}
+use Rattle.std.specs.Prelude.{◌≡◌, List, ℕ, ◌+◌, ◌≤◌, Ok}
 use Rattle.rack.specs.declared.Rack.{Rack}
 use Rattle.rack.specs.definitions.Tree.{depth, greatest_depth}
 use Rattle.rack.specs.definitions.Grow.{tree}
@@ -9,11 +9,10 @@ use Rattle.seat.specs.definitions.Grants.{acting, grants}
 use Rattle.register_image.specs.definitions.Image.{Images, Result}
 use Rattle.register_laws.specs.laws.Accepted as images
 use Rattle.claim_laws.specs.definitions.Same.{SameButStatus}
-use Rattle.check_search.specs.declared.Report.TheVariants.{Pass}
+use Rattle.check_search.specs.definitions.Report.{Pass}
 use Rattle.file_record.specs.declared.Event.{Event}
 use Rattle.event_run.specs.declared.Answer.{Answer}
 use Rattle.event_run.specs.declared.Answer.TheVariants.{Checked}
-use Rattle.call_table.specs.declared.Reply.TheVariants as reply
 use Rattle.call_table.specs.definitions.Call.{run_refusal, ran, run_in, check_in}
 use Rattle.demand_calls.specs.laws.Checking.{check_passed, event_no_clash}
 use Rattle.demand_calls.specs.definitions.Events.{Fits, reply_number, Goes, crossings, start_bus, Act, AllWriteNone, after_all}
@@ -26,7 +25,7 @@ module _ (rack : Rack) (im : Images) where
       → crossings (run_in (tree rack) (acting (grants rack) seat) im e).answer ≤ depth (tree rack) (start_bus (tree rack) e) + greatest_depth (tree rack)
   rack_crossings seat = event_crossings (tree rack) (acting (grants rack) seat) (accepted_stored rack) im
 
-  module _ (pass : check_in (tree rack) (grants rack) im ≡ reply.Answered (Checked Pass)) where
+  module _ (pass : check_in (tree rack) (grants rack) im ≡ Ok (Checked Pass)) where
     -- 'In a passed rack, with the registers it passed with, status bits aside, every accepted configuration, memory or I/O access,
     -- whichever party starts it, is never driven, ends unclaimed, or ends at its one owner'
     pub rack_goes : (im' : Images) → SameButStatus (tree rack) im im' → (seat : ℕ) (e : Event) → Fits e

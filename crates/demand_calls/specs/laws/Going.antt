@@ -1,5 +1,5 @@
 -- Demand 3 over the call `run_event`: where an access goes in a passed rack, and how many bridges it crosses.
-use Rattle.std.specs.Prelude.{◌≡◌, ℕ, ◌+◌, ◌≤◌, eqb}
+use Rattle.std.specs.Prelude.{◌≡◌, ℕ, ◌+◌, ◌≤◌, eqb, Ok}
 use Rattle.std.proofs.Math.Path.{refl}
 use Rattle.std.proofs.Math.Bool.{true, false}
 use Rattle.std.proofs.Common.{inl, inr, eqb-true}
@@ -19,7 +19,7 @@ use Rattle.route_bus.specs.declared.End.{End}
 use Rattle.route_bus.specs.declared.End.TheVariants as end
 use Rattle.route_bus.specs.declared.Route.{Route}
 use Rattle.route.specs.definitions.Route.{configure, access}
-use Rattle.check_search.specs.declared.Report.TheVariants.{Pass}
+use Rattle.check_search.specs.definitions.Report.{Pass}
 use Rattle.check_search.specs.definitions.Check.{check}
 use Rattle.demand_passed.specs.laws.PassedRack.{access_goes, configure_goes, access_crossings, configure_crossings}
 use Rattle.file_record.specs.declared.Event.{Event}
@@ -29,7 +29,6 @@ use Rattle.event_run.specs.declared.Answer.{Answer}
 use Rattle.event_run.specs.declared.Answer.TheVariants.{Checked}
 use Rattle.event_run.specs.definitions.Answers.{crossings_of}
 use Rattle.event_run.specs.definitions.Run.{configuration, addressed, register_of, reached, ended_at, ended, event_run}
-use Rattle.call_table.specs.declared.Reply.TheVariants as reply
 use Rattle.call_table.specs.definitions.Call.{run_refusal, ran, run_in, check_in}
 use Rattle.demand_calls.specs.laws.Refusing.{field_right, event_untouched, event_runs, event_accepted}
 use Rattle.demand_calls.specs.laws.Checking.{said, initiator}
@@ -37,7 +36,7 @@ use Rattle.demand_calls.specs.definitions.Events.{Fits, crossings, start_bus, Go
 use Rattle.register_image.specs.definitions.Fixed.{lengths_wrong}
 
 module _ (t : Tree) (by : Acting) (stored : rack_refusal t ≡ 0 → Stored t) (im im' : Images)
-    (pass : check_in t by.grants im ≡ reply.Answered (Checked Pass)) (same : SameButStatus t im im') where
+    (pass : check_in t by.grants im ≡ Ok (Checked Pass)) (same : SameButStatus t im im') where
   run_goes : (e : Event) → Fits e → rack_refusal t ≡ 0 → Stored t → event_wrong t e ≡ false → check t im ≡ Pass
       → lengths_wrong t im' ≡ false → Goes t by im' e (event_run t by im' e)
   unfolding event_run event_wrong

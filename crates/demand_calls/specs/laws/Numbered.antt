@@ -1,5 +1,5 @@
 -- What an answer's number says of the end of its route.
-use Rattle.std.specs.Prelude.{◌≡◌, ℕ, ◌<◌}
+use Rattle.std.specs.Prelude.{◌≡◌, Ok, Err, ℕ, ◌<◌}
 use Rattle.std.proofs.Common.{sym, arith}
 use Rattle.rack.specs.definitions.Tree.{Tree}
 use Rattle.rack.specs.laws.Bools.{tested}
@@ -9,8 +9,7 @@ use Rattle.route_bus.specs.declared.Access.{Access}
 use Rattle.route_bus.specs.declared.End.{End}
 use Rattle.route_bus.specs.declared.End.TheVariants as end
 use Rattle.route_laws.specs.definitions.Ends.{end_number}
-use Rattle.check_search.specs.declared.Report.{Report}
-use Rattle.check_search.specs.declared.Report.TheVariants.{Pass, Fault}
+use Rattle.check_search.specs.definitions.Report.{Report}
 use Rattle.event_run.specs.declared.Answer.TheVariants.{Checked}
 use Rattle.event_run.specs.definitions.Answers.{answer_number}
 use Rattle.event_run.specs.definitions.Run.{register_of, reached, ended_at}
@@ -34,5 +33,5 @@ ended_number t by im x c end.Silent q l ne = q
 
 -- a check's are 8 and 9
 pub checked_number : (r : Report) {n : ℕ} → answer_number (Checked r) ≡ n → (n ≡ 8 → ⊥) → (n ≡ 9 → ⊥) → ⊥
-checked_number Pass q pass fault = pass (sym q)
-checked_number (Fault bus space a driver x y) q pass fault = fault (sym q)
+checked_number (Ok _) q pass fault = pass (sym q)
+checked_number (Err f) q pass fault = fault (sym q)

@@ -1,5 +1,5 @@
 -- Demand 1 over the calls: in which order they refuse, when they accept, and that 'a refusal leaves every image untouched'.
-use Rattle.std.specs.Prelude.{◌≡◌, refl, Bool, true, false, [], ◌∷◌, ℕ}
+use Rattle.std.specs.Prelude.{◌≡◌, refl, Bool, true, false, [], ◌∷◌, ℕ, Ok, Err}
 use Rattle.std.proofs.Common.{◌∙◌, arith}
 use Rattle.rack.specs.definitions.First.{◌when◌, unless}
 use Rattle.rack.specs.laws.FirstLaws.{when_not, or_this, or_next, or_none, unless_number, unless_none}
@@ -12,9 +12,6 @@ use Rattle.bus_reset.specs.definitions.Store.{store_node}
 use Rattle.file_record.specs.declared.Event.{Event}
 use Rattle.event_run.specs.definitions.Run.{event_run}
 use Rattle.claim_agent.specs.definitions.WindowEnds.{window_ends}
-use Rattle.call_table.specs.declared.Reply.TheVariants as reply
-use Rattle.call_table.specs.declared.Number.TheVariants as number
-use Rattle.call_table.specs.declared.RangeReply.TheVariants as range-reply
 use Rattle.call_table.specs.definitions.Call.{refusal_by, read_refusal, store_refusal, view_refusal, region_refusal, window_refusal, event_refusal, seat_refusal, run_refusal, number_code, number_values, read_in, size_in, stored_in, view_in, ends_in, ran, run_in}
 use Rattle.register_header.specs.definitions.Register.{read_register}
 
@@ -69,41 +66,41 @@ field_right {b} e = when_not 13 b (λ z. omega arith) e
 
 -- a register read and sizing: a refusal is told by its number and with no value
 pub number_refused : (refusal value : ℕ) → (refusal ≡ 0 → ⊥)
-    → (number_code (unless refusal (number.Value value) number.Refused) ≡ refusal)
-    × (number_values (unless refusal (number.Value value) number.Refused) ≡ [])
-number_refused refusal value ne = rw (unless_number (number.Value value) number.Refused ne) (refl, refl)
+    → (number_code (unless refusal (Ok value) Err) ≡ refusal)
+    × (number_values (unless refusal (Ok value) Err) ≡ [])
+number_refused refusal value ne = rw (unless_number (Ok value) Err ne) (refl, refl)
 
 -- otherwise 0 and the value
 pub number_accepted : (refusal value : ℕ) → refusal ≡ 0
-    → (number_code (unless refusal (number.Value value) number.Refused) ≡ 0)
-    × (number_values (unless refusal (number.Value value) number.Refused) ≡ value ∷ [])
-number_accepted refusal value z = rw (unless_none (number.Value value) number.Refused z) (refl, refl)
+    → (number_code (unless refusal (Ok value) Err) ≡ 0)
+    × (number_values (unless refusal (Ok value) Err) ≡ value ∷ [])
+number_accepted refusal value z = rw (unless_none (Ok value) Err z) (refl, refl)
 
 module _ (t : Tree) (g : Grants) (im : Images) where
   -- a register read: the refusal's number, or the dword
   pub read_refused : (i register : ℕ) → (refusal_by t g im (read_refusal t i register) 0 ≡ 0 → ⊥)
-      → read_in t g im i register ≡ number.Refused (refusal_by t g im (read_refusal t i register) 0)
+      → read_in t g im i register ≡ Err (refusal_by t g im (read_refusal t i register) 0)
   unfolding read_in
   read_refused i register ne = unless_number _ _ ne
 
   pub read_accepted : (i register : ℕ) → refusal_by t g im (read_refusal t i register) 0 ≡ 0
-      → read_in t g im i register ≡ number.Value (read_register (view t im i) register)
+      → read_in t g im i register ≡ Ok (read_register (view t im i) register)
   unfolding read_in
   read_accepted i register z = unless_none _ _ z
 
   -- sizing: the refusal's number; what an accepted one gives is in `Sizing`
   pub size_refused : (i r : ℕ) → (refusal_by t g im (region_refusal t i r) 0 ≡ 0 → ⊥)
-      → size_in t g im i r ≡ number.Refused (refusal_by t g im (region_refusal t i r) 0)
+      → size_in t g im i r ≡ Err (refusal_by t g im (region_refusal t i r) 0)
   unfolding size_in
   size_refused i r ne = unless_number _ _ ne
 
   -- both ends of a window or region: the refusal's number, or what the registers give
   pub ends_refused : (i k : ℕ) → (refusal_by t g im (window_refusal t i k) 0 ≡ 0 → ⊥)
-      → ends_in t g im i k ≡ range-reply.Refused (refusal_by t g im (window_refusal t i k) 0)
+      → ends_in t g im i k ≡ Err (refusal_by t g im (window_refusal t i k) 0)
   unfolding ends_in
   ends_refused i k ne = unless_number _ _ ne
 
-  pub ends_accepted : (i k : ℕ) → refusal_by t g im (window_refusal t i k) 0 ≡ 0 → ends_in t g im i k ≡ range-reply.Range (window_ends t im i k)
+  pub ends_accepted : (i k : ℕ) → refusal_by t g im (window_refusal t i k) 0 ≡ 0 → ends_in t g im i k ≡ Ok (window_ends t im i k)
   unfolding ends_in
   ends_accepted i k z = unless_none _ _ z
 
@@ -131,7 +128,7 @@ module _ (t : Tree) (g : Grants) (im : Images) where
 
 module _ (t : Tree) (by : Acting) (im : Images) where
   -- a refused event changes nothing and answers the refusal's number
-  pub event_untouched : (e : Event) → (run_refusal t by im e ≡ 0 → ⊥) → run_in t by im e ≡ gives (reply.Refused (run_refusal t by im e)) im
+  pub event_untouched : (e : Event) → (run_refusal t by im e ≡ 0 → ⊥) → run_in t by im e ≡ gives (Err (run_refusal t by im e)) im
   unfolding run_in
   event_untouched e ne = unless_number _ _ ne
 

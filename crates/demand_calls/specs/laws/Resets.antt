@@ -1,5 +1,5 @@
 -- What request E5 says of events over the calls, proved.
-use Rattle.std.specs.Prelude.{◌≡◌, List, ℕ, eqb, length}
+use Rattle.std.specs.Prelude.{◌≡◌, List, ℕ, eqb, length, Ok}
 use Rattle.std.proofs.Math.Path.{refl, ap}
 use Rattle.std.proofs.Math.Bool.{true, false}
 use Rattle.std.proofs.Math.Logic.{⊎_elim}
@@ -42,7 +42,6 @@ use Rattle.event_laws.specs.definitions.Stores.{Stores}
 use Rattle.event_laws.specs.laws.Accepted as runs
 use Rattle.event_laws.specs.laws.Stores.{stores}
 use Rattle.event_laws.specs.laws.Written.{configured_stored, configured_otherwise, accessed_same, read_not_stored, access_not_stored, held_silent}
-use Rattle.call_table.specs.declared.Reply.TheVariants as reply
 use Rattle.call_table.specs.definitions.Call.{refusal_by, store_refusal, run_refusal, stored_in, ran, run_in}
 use Rattle.muzgante.specs.definitions.Called.{rack_run, reset_refusal, rack_reset}
 use Rattle.demand_calls.specs.definitions.Resets.{StoredAt, HeldInitiator, ToHeld, ToHeldBus, Resets}
@@ -118,7 +117,7 @@ event_resets t by stored im e z =
       silent = λ h. ap ran (run_silent t by a.0 st im a.1 e h);
       unclaimed = λ gs holder h.
           let u = run_unclaimed t by a.0 st im a.1 e gs holder h in
-          (u.0, ap reply.Answered u.1);
+          (u.0, ap Ok u.1);
     })
 
 -- accepted images stay accepted over an accepted event

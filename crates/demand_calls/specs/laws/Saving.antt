@@ -1,6 +1,6 @@
 -- Demand 1 over the calls that write and open rack files: when they refuse and what they accept. Document 02, E2: 'a refusal leaves the
 -- buffer untouched, and a file that fits the bytes past it'.
-use Rattle.std.specs.Prelude.{◌≡◌, true, false, List, [], ℕ, ◌≤◌, ◌<◌, length}
+use Rattle.std.specs.Prelude.{◌≡◌, true, false, List, [], ℕ, ◌≤◌, ◌<◌, length, Ok, Err}
 use Rattle.std.proofs.Common.{sym, ◌∙◌, arith, lt-ltb, le-ltb}
 use Rattle.std.proofs.Math.Path.{ap}
 use Rattle.rack.specs.definitions.Buffer.{over_start}
@@ -13,9 +13,7 @@ use Rattle.file_record.specs.definitions.Load.{file_in, rack_alone}
 use Rattle.file_record.specs.definitions.Start.{start_images}
 use Rattle.file_save.specs.definitions.Saved.{saved_file}
 use Rattle.file_save.specs.laws.Length.{saved_most}
-use Rattle.call_table.specs.declared.Number.{Number}
-use Rattle.call_table.specs.declared.Number.TheVariants as number
-use Rattle.call_table.specs.definitions.Call.{refusal_by, number_code}
+use Rattle.call_table.specs.definitions.Call.{Reply, refusal_by, number_code}
 use Rattle.call_numbers.specs.definitions.Called.{refused_call}
 use Rattle.call_numbers.specs.definitions.Numbers.{zeros, eight, value_numbers}
 use Rattle.call_save.specs.definitions.Save.{save_refusal, save_in, buffer_in}
@@ -29,32 +27,32 @@ module _ (t : Tree) (g : Grants) (im : Images) where
 
   module _ (old : List ℕ) where
     by_number : {n : ℕ} → save_refusal t g im (length old) ≡ n → (n ≡ 0 → ⊥)
-        → (save_in t g im (length old) ≡ number.Refused n) × (buffer_in t g im old ≡ old)
+        → (save_in t g im (length old) ≡ Err n) × (buffer_in t g im old ≡ old)
     unfolding save_in buffer_in
     by_number e ne =
-        (unless_number _ number.Refused (λ z. ne (sym e ∙ z)) ∙ ap number.Refused e, unless_number _ (λ n. old) (λ z. ne (sym e ∙ z)))
+        (unless_number _ Err (λ z. ne (sym e ∙ z)) ∙ ap Err e, unless_number _ (λ n. old) (λ z. ne (sym e ∙ z)))
 
     -- the refusals of every call come first, then a buffer that is too short
     pub save_refused : (refusal_by t g im 0 0 ≡ 0 → ⊥)
-        → (save_in t g im (length old) ≡ number.Refused (refusal_by t g im 0 0)) × (buffer_in t g im old ≡ old)
+        → (save_in t g im (length old) ≡ Err (refusal_by t g im 0 0)) × (buffer_in t g im old ≡ old)
     save_refused ne = by_number (or_this (refusal_by t g im 0 0) _ ne) ne
 
     pub save_short : refusal_by t g im 0 0 ≡ 0 → length old < length (saved_file t g im)
-        → (save_in t g im (length old) ≡ number.Refused 11) × (buffer_in t g im old ≡ old)
+        → (save_in t g im (length old) ≡ Err 11) × (buffer_in t g im old ≡ old)
     save_short z l =
         by_number (or_next (refusal_by t g im 0 0) _ z ∙ rw (lt-ltb (length old) (length (saved_file t g im)) l)) (λ e. omega (arith, e))
 
     pub save_answers : refusal_by t g im 0 0 ≡ 0 → length (saved_file t g im) ≤ length old
-        → (save_in t g im (length old) ≡ number.Value (length (saved_file t g im)))
+        → (save_in t g im (length old) ≡ Ok (length (saved_file t g im)))
         × (buffer_in t g im old ≡ over_start old (saved_file t g im))
     unfolding save_in buffer_in
     save_answers z l =
         let e : save_refusal t g im (length old) ≡ 0 =
         or_next (refusal_by t g im 0 0) _ z ∙ rw (le-ltb (length old) (length (saved_file t g im)) l) in
-        (unless_none _ number.Refused e, unless_none _ (λ n. old) e)
+        (unless_none _ Err e, unless_none _ (λ n. old) e)
 
     -- what rack_save makes of it
-    pub saved_as : {r : Number} {new : List ℕ} → (save_in t g im (length old) ≡ r) × (buffer_in t g im old ≡ new)
+    pub saved_as : {r : Reply ℕ} {new : List ℕ} → (save_in t g im (length old) ≡ r) × (buffer_in t g im old ≡ new)
         → saved_call t g im old ≡ filed (number_code r) (value_numbers r) new
     saved_as e = rw (e.0, e.1)
 

@@ -1,4 +1,5 @@
 -- 02, E1 over the call `run_event`: which writes are denied, and what a seat other than 0 cannot change.
+use Rattle.event_run.specs.declared.Answer.{Answer}
 use Rattle.std.proofs.Math.Path.{◌≡◌, refl, sym, ap}
 use Rattle.std.proofs.Common.{◌∙◌, true≢false}
 use Rattle.std.proofs.Math.Bool.{true, false}
@@ -33,8 +34,7 @@ use Rattle.file_record.specs.declared.Event.TheVariants.{Write, Read, Memory, Io
 use Rattle.event_run.specs.declared.Ending.TheVariants.{Denied}
 use Rattle.event_run.specs.definitions.Answers.{answer_number}
 use Rattle.event_run.specs.definitions.Run.{configuration, addressed, answers, accessed, event_run}
-use Rattle.call_table.specs.declared.Reply.{Reply}
-use Rattle.call_table.specs.definitions.Call.{run_refusal, ran, run_in}
+use Rattle.call_table.specs.definitions.Call.{Reply, run_refusal, ran, run_in}
 use Rattle.demand_calls.specs.definitions.Events.{reply_number, crossings, after_all, all_by, AtOwner, DeniedWrite, denied_reply, Would, WouldStore}
 use Rattle.demand_calls.specs.laws.Numbered.{checked_number}
 use Rattle.demand_calls.specs.laws.Refusing.{field_right, event_untouched, event_runs, event_accepted}
@@ -101,7 +101,7 @@ module _ (t : Tree) (by : Acting) (im : Images) where
       holder,
       g,
       owns t im x a,
-      ap (λ (q : Result Reply). crossings q.answer) (r ∙ ap ran (is_stored t im x a zero w (zero_may zero g register refl))),
+      ap (λ (q : Result (Reply Answer)). crossings q.answer) (r ∙ ap ran (is_stored t im x a zero w (zero_may zero g register refl))),
       λ ok o. event_runs t by im write ok ∙ ap ran (is_denied t im x a by w (may_granted by g register o.seat o.low ∙ o.lacks)),
       λ ok m.
           event_runs t by im write ok

@@ -1,5 +1,5 @@
 -- Sizing over the call `size_region`: 'A region has 2 to the e bytes', 'A kind 0 region has size 0'.
-use Rattle.std.specs.Prelude.{◌≡◌, cond, ℕ, ◌^◌, ltb, eqb}
+use Rattle.std.specs.Prelude.{◌≡◌, cond, ℕ, ◌^◌, ltb, eqb, Ok}
 use Rattle.std.proofs.Common.{ap, ◌∙◌, arith, leb-false, ltb-false}
 use Rattle.rack.specs.declared.Rack.{Rack}
 use Rattle.rack.specs.laws.Bools.{neither}
@@ -9,13 +9,12 @@ use Rattle.rack.specs.definitions.Grow.{tree}
 use Rattle.seat.specs.definitions.Grants.{grants}
 use Rattle.register_image.specs.definitions.Image.{Images}
 use Rattle.register_laws.specs.laws.Sizes.{accepted_size}
-use Rattle.call_table.specs.declared.Number.TheVariants as number
 use Rattle.call_table.specs.definitions.Call.{refusal_by, region_refusal, missing, size_in}
 use Rattle.demand_calls.specs.laws.Refusing.{accepted, field_right}
 
 pub size_accepted : (rack : Rack) (im : Images) (i r : ℕ) → refusal_by (tree rack) (grants rack) im (region_refusal (tree rack) i r) 0 ≡ 0
     → size_in (tree rack) (grants rack) im i r
-    ≡ number.Value (cond (eqb (region_in ((tree rack).node i) r).kind 0) 0 (2 ^ (region_in ((tree rack).node i) r).exponent))
+    ≡ Ok (cond (eqb (region_in ((tree rack).node i) r).kind 0) 0 (2 ^ (region_in ((tree rack).node i) r).exponent))
 unfolding size_in
 size_accepted rack im i r z =
     let t = tree rack in
@@ -23,5 +22,5 @@ size_accepted rack im i r z =
     let s = neither (missing t i) _ (field_right a.2) in
     let k = neither (is_bridge (t.node i).kind) (ltb 2 r) s.1 in
     unless_none _ _ z
-    ∙ ap number.Value
+    ∙ ap Ok
     (accepted_size rack im i r a.0 a.1 (leb-false t.count i s.0) k.0 (omega (arith, ltb-false 2 r k.1)))

@@ -23,9 +23,7 @@ use Rattle.route_bus.specs.declared.Sight.{Sight}
 use Rattle.route_bus.specs.declared.Sight.TheVariants.{Ends, Crosses}
 use Rattle.route_bus.specs.definitions.Look.{look}
 use Rattle.route_bus.specs.definitions.Cross.{turns_type0}
-use Rattle.check_search.specs.declared.Report.{Report}
-use Rattle.check_search.specs.declared.Report.TheVariants.{Pass, Fault}
-use Rattle.check_search.specs.definitions.Report.{report_number, report_values}
+use Rattle.check_search.specs.definitions.Report.{Report, Pass, fault, report_number, report_values}
 use Rattle.check_search.specs.definitions.Check.{check}
 use Rattle.claim_window.specs.declared.Windows.{Windows}
 use Rattle.claim_window.specs.definitions.Window.{windows_of}
@@ -249,7 +247,7 @@ rows =
     ∷ clears Device 0xa000 0x2000 0x8000  -- 9, of a device
     ∷ crosses (byte 0x19 0x00 ∷ byte 0x1a 0x05 ∷ []) 3  -- 10: 'Secondary 0, subordinate 5: bus 3 crosses as Type 1'
     -- 11: '`fault 0 memory 0000000090000000 2 0 1`'
-    ∷ checks three (Fault 0 Memory 0x90000000 2 0 1) "1 fault 0 memory 0000000090000000 2 0 1\n"
+    ∷ checks three (fault 0 Memory 0x90000000 2 0 1) "1 fault 0 memory 0000000090000000 2 0 1\n"
     -- 12: 'The same without device 2: pass'
     ∷ checks two Pass "1 pass\n"
     -- 02, E4: 'A configuration write to device 31, function 7, register 0 is one', with no byte enabled too

@@ -22,7 +22,7 @@ use Rattle.route_bus.specs.definitions.Look.{master_abort, unclaimed, owned, cla
 use Rattle.route_bus.specs.definitions.Cross.{other_bus, turns_type0, last_outcome, passed, crossed}
 use Rattle.route.specs.definitions.Route.{bus_step, configure, access}
 use Rattle.event_run.specs.definitions.Run.{register_of, reached, ended_at, event_run}
-use Rattle.check_search.specs.declared.Report.TheVariants.{Pass, Fault}
+use Rattle.check_search.specs.definitions.Report.{Pass, fault}
 use Rattle.check_search.specs.definitions.Check.{first_in, shown, at_value, check}
 use Rattle.check_search.specs.laws.Stretch.{until_all}
 use Rattle.check_search.proofs.Swept.{decoded, sweep_by, first_by, on_bus_by, check_by, checked}
@@ -39,7 +39,7 @@ use Rattle.print_line.specs.definitions.Line.{ending_fields, report_fields, spac
 use Rattle.print_line.specs.definitions.Text.{hex_of, decimal_of, decimal_up_to, codes_of}
 
 -- the check is a search of every address: what the sweep finds in at most 40 stretches is what it finds (`checked`)
-searched : (check (rack_of three) (images_of three) ≡ Fault 0 Memory 0x90000000 2 0 1) × (check (rack_of two) (images_of two) ≡ Pass)
+searched : (check (rack_of three) (images_of three) ≡ fault 0 Memory 0x90000000 2 0 1) × (check (rack_of two) (images_of two) ≡ Pass)
 unfolding tree_with grown count_of reset_from reset_byte region_reset node_part view nodes_from bridges_from windows_of area_of area.holds inside_memory inside_io memory_until io_until cut_at cut_past cut_if cut_low bridge_of device_of agent_of primary_claims secondary_claims device_claims host_claims claims_of windows_until regions_until until_of claimants_in first_in shown at_value until_all decoded sweep_by first_by on_bus_by check_by
 searched = (checked 40 _ _ _ refl, checked 40 _ _ _ refl)
 

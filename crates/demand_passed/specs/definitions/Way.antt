@@ -6,7 +6,8 @@ use Rattle.register_image.specs.definitions.Image.{Images, Result, view}
 use Rattle.bus_reset.specs.definitions.Held.{held_bus}
 use Rattle.claim_agent.specs.declared.Space.TheVariants.{Memory, Io, Configuration}
 use Rattle.claim_agent.specs.definitions.Agent.{device_of}
-use Rattle.claim_laws.specs.definitions.Reach.{area_at, Reach}
+use Rattle.claim_agent.specs.definitions.Claim.{area_at}
+use Rattle.claim_laws.specs.definitions.Reach.{Reach}
 use Rattle.claim_laws.specs.definitions.Same.{SameButStatus}
 use Rattle.route_bus.specs.declared.Access.{Access}
 use Rattle.route_bus.specs.declared.End.{End}

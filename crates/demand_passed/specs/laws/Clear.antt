@@ -20,8 +20,8 @@ use Rattle.claim_agent.specs.declared.Space.{Space}
 use Rattle.claim_agent.specs.declared.Space.TheVariants.{Memory, Io, Configuration}
 use Rattle.claim_agent.specs.definitions.Space.{last_of}
 use Rattle.claim_agent.specs.definitions.Claimants.{claimants, first_two}
-use Rattle.check_search.specs.declared.Report.{Report}
-use Rattle.check_search.specs.declared.Report.TheVariants.{Pass, Fault}
+use Rattle.check_search.specs.declared.Fault.{Fault}
+use Rattle.check_search.specs.definitions.Report.{Report, Pass, fault}
 use Rattle.check_search.specs.definitions.Check as checked
 use Rattle.check_search.specs.definitions.Check.{first_in, first_from, shown, drivers_of, first_of, bus_report, check}
 use Rattle.check_search.proofs.StretchLaws.{fewer_shown}
@@ -111,15 +111,25 @@ module _ (t : Tree) (who : ClaimantsOf) (drivers : DriversOf) where
     two : (rest : List ℕ) × (l ≡ x ∷ (y ∷ rest))
 
   shown_two : (bus : ℕ) (space : Space) (a driver : ℕ) (l : List ℕ) (bus' : ℕ) (space' : Space) (a' driver' x y : ℕ)
-      → shown bus space a driver (first_two l) ≡ Fault bus' space' a' driver' x y → Shown bus space a driver l bus' space' a' driver' x y
+      → shown bus space a driver (first_two l) ≡ fault bus' space' a' driver' x y → Shown bus space a driver l bus' space' a' driver' x y
   unfolding shown
   shown_two bus space a driver [] bus' space' a' driver' x y e = let z : ◌≡◌ {A = ℕ} 0 1 = cc in absurd (omega arith)
   shown_two bus space a driver (v ∷ []) bus' space' a' driver' x y e = let z : ◌≡◌ {A = ℕ} 0 1 = cc in absurd (omega arith)
   shown_two bus space a driver (v ∷ (w ∷ l)) bus' space' a' driver' x y e =
-      record { same_bus = cc; same_space = cc; same_value = cc; same_driver = cc; two = (l, cc) }
+      let f : ◌≡◌ {A = Fault} (record { holder = bus; space = space; value = a; driver = driver; first = v; second = w })
+      (record { holder = bus'; space = space'; value = a'; driver = driver'; first = x; second = y }) = cc in
+      let first : v ≡ x = ap (λ (s : Fault). s.first) f in
+      let second : w ≡ y = ap (λ (s : Fault). s.second) f in
+      record {
+        same_bus = ap (λ (s : Fault). s.holder) f;
+        same_space = ap (λ (s : Fault). s.space) f;
+        same_value = ap (λ (s : Fault). s.value) f;
+        same_driver = ap (λ (s : Fault). s.driver) f;
+        two = (l, cc);
+      }
 
   -- where it does not pass, what it shows is that first fault
-  search_faulted : (bus : ℕ) (space : Space) (a driver x y : ℕ) → search ≡ Fault bus space a driver x y
+  search_faulted : (bus : ℕ) (space : Space) (a driver x y : ℕ) → search ≡ fault bus space a driver x y
       → FirstClash who drivers t bus space a driver x y
   search_faulted bus space a driver x y e =
       let b = in_first bus space a driver x y on_bus (buses t) e in
@@ -249,7 +259,7 @@ module _ (t : Tree) (im : Images) where
         ),
       )))
 
-  pub faulted : (bus : ℕ) (space : Space) (a driver x y : ℕ) → check t im ≡ Fault bus space a driver x y
+  pub faulted : (bus : ℕ) (space : Space) (a driver x y : ℕ) → check t im ≡ fault bus space a driver x y
       → FirstFault t im bus space a driver x y
   faulted bus space a driver x y e =
       search_faulted t (claimants t im) (drivers_of t) bus space a driver x y (sym check_is ∙ e)
@@ -280,7 +290,7 @@ module _ (t : Tree) (im : Images) (ok : rack_refusal t ≡ 0) (sound : image_ref
             at_most_one t im ok (agreed t im sound) Configuration bus bus n is (inl refl) l (λ free. o.configuration bus is free n l m);
       }
 
-  pub other_faulted : (bus : ℕ) (space : Space) (a driver x y : ℕ) → check t im ≡ Fault bus space a driver x y
+  pub other_faulted : (bus : ℕ) (space : Space) (a driver x y : ℕ) → check t im ≡ fault bus space a driver x y
       → FirstOther t im bus space a driver x y
   other_faulted bus space a driver x y e =
       search_faulted t (other_claimants t im) (other_drivers t im) bus space a driver x y (sym same ∙ e)

@@ -2,11 +2,11 @@
 use Rattle.std.proofs.Math.Path.{◌≡◌, refl, ap}
 use Rattle.std.proofs.Common.{sym, ◌∙◌, eq-or-lt_of_le, arith}
 use Rattle.std.proofs.Math.Logic.{⊎_elim}
+use Rattle.std.specs.Prelude.{Ok, Err}
 use mathlib.Core.List.{List, [], ◌∷◌}
 use Prim.Native.Nat.{ℕ, zero, suc, ◌+◌, ◌≤◌, ◌<◌}
 use Rattle.claim_agent.specs.declared.Space.{Space}
-use Rattle.check_search.specs.declared.Report.{Report}
-use Rattle.check_search.specs.declared.Report.TheVariants.{Pass, Fault}
+use Rattle.check_search.specs.definitions.Report.{Report, Pass, fault}
 use Rattle.check_search.specs.definitions.Check.{or_else, first_in, first_from}
 use Rattle.demand_passed.specs.definitions.FirstFault.{Each, FirstOf}
 
@@ -26,11 +26,11 @@ each_map P Q (x ∷ xs) f e = (f x e.0, each_map P Q xs f e.1)
 
 -- what is found of a fault's values
 abbrev pub Shows : Report → ℕ → Space → ℕ → ℕ → ℕ → ℕ → Type 0
-Shows r b s v d x y = r ≡ Fault b s v d x y
+Shows r b s v d x y = r ≡ fault b s v d x y
 
 pass_or : (r s : Report) → or_else r s ≡ Pass → (r ≡ Pass) × (s ≡ Pass)
-pass_or Pass s e = (refl, e)
-pass_or (Fault b p v d x y) s e = let z : ◌≡◌ {A = ℕ} 0 1 = cc in absurd (omega arith)
+pass_or (Ok _) s e = (refl, e)
+pass_or (Err f) s e = let z : ◌≡◌ {A = ℕ} 0 1 = cc in absurd (omega arith)
 
 -- a search of a list passes exactly where each member does
 pub in_passes : {A : Type 0} (f : A → Report) (l : List A) → first_in f l ≡ Pass → Each (λ x. f x ≡ Pass) l
@@ -77,8 +77,8 @@ module _ (b : ℕ) (p : Space) (v d y z : ℕ) where
           → (Shows (first_in f xs) b p v d y z → (x : A) × FirstOf (λ w. f w ≡ Pass) xs x × Shows (f x) b p v d y z)
           → Shows (or_else r (first_in f xs)) b p v d y z
           → (x' : A) × FirstOf (λ w. f w ≡ Pass) (x ∷ xs) x' × Shows (f x') b p v d y z
-      here Pass q g s = more (g s) q
-      here (Fault b' p' v' d' y' z') q g s = (x, record { before = []; after = xs; split = refl; clear = each_nil (λ w. f w ≡ Pass) }, q ∙ s)
+      here (Ok _) q g s = more (g s) q
+      here (Err g') q g s = (x, record { before = []; after = xs; split = refl; clear = each_nil (λ w. f w ≡ Pass) }, q ∙ s)
 
   -- a search of numbers shows what the lowest with a fault shows
   pub from_first : (f : ℕ → Report) (left a : ℕ) → Shows (first_from f left a) b p v d y z
@@ -103,5 +103,5 @@ module _ (b : ℕ) (p : Space) (v d y z : ℕ) where
           → (x : ℕ) × (a + 1 ≤ x) × (x < a + 1 + left) × Shows (f x) b p v d y z × ((w : ℕ) → a + 1 ≤ w → w < x → f w ≡ Pass))
           → Shows (or_else r (first_from f left (a + 1))) b p v d y z
           → (x : ℕ) × (a ≤ x) × (x < a + suc left) × Shows (f x) b p v d y z × ((w : ℕ) → a ≤ w → w < x → f w ≡ Pass)
-      here Pass q g s = more q (g s)
-      here (Fault b' p' v' d' y' z') q g s = (a, omega arith, omega arith, q ∙ s, λ w l m. absurd (omega arith))
+      here (Ok _) q g s = more q (g s)
+      here (Err g') q g s = (a, omega arith, omega arith, q ∙ s, λ w l m. absurd (omega arith))

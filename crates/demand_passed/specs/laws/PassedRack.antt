@@ -22,7 +22,7 @@ use Rattle.route.specs.definitions.Route.{drives, from, configure, access}
 use Rattle.route_laws.specs.definitions.Ends.{is_clash}
 use Rattle.route_laws.specs.definitions.Path.{Taken}
 use Rattle.route_laws.specs.laws.Possible.{parent_bus, crossings_le, configure_le}
-use Rattle.check_search.specs.declared.Report.TheVariants.{Pass}
+use Rattle.check_search.specs.definitions.Report.{Pass}
 use Rattle.check_search.specs.definitions.Check.{check}
 use Rattle.demand_passed.specs.laws.Clear.{passed}
 use Rattle.demand_passed.specs.laws.Ways.{Gone, from_gone, started_gone, gone_no_clash}

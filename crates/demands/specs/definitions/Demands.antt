@@ -1,6 +1,8 @@
 -- The three demands in the person's own words, and what is proved of each. The proofs are in specs/laws/Proved.antt.
-use Rattle.std.specs.Prelude.{◌≡◌, Bool, true, false, cond, List, [], ◌∷◌, ◌++◌, ℕ, ◌+◌, ◌^◌, ◌≤◌, ◌<◌, eqb, length, get_or, take}
+use Rattle.std.specs.Prelude.{◌≡◌, Bool, true, false, cond, List, [], ◌∷◌, ◌++◌, Ok, Err, ℕ, ◌+◌, ◌^◌, ◌≤◌, ◌<◌, eqb, length, get_or, take}
 use Rattle.rack.specs.declared.Rack.{Rack}
+use Rattle.rack.specs.declared.refusal.Refusal.TheVariants.{BadArbitration}
+use Rattle.rack.specs.definitions.Refused.{number_of}
 use Rattle.rack.specs.definitions.Buffer.{over_start}
 use Rattle.rack.specs.definitions.Node.{is_bridge, region_in}
 use Rattle.rack.specs.definitions.Tree.{Tree, host, bridge_count, device_count, depth, greatest_depth}
@@ -26,7 +28,7 @@ use Rattle.claim_agent.specs.definitions.Space.{space_number}
 use Rattle.claim_agent.specs.definitions.Claim.{claims}
 use Rattle.claim_agent.specs.definitions.WindowEnds.{window_ends}
 use Rattle.claim_laws.specs.definitions.Same.{SameButStatus, SameButReset}
-use Rattle.check_search.specs.declared.Report.TheVariants.{Pass, Fault}
+use Rattle.check_search.specs.definitions.Report.{Pass, fault}
 use Rattle.check_search.specs.definitions.Check.{check}
 use Rattle.held_laws.specs.definitions.Others.{other_check}
 use Rattle.file_record.specs.declared.Event.{Event}
@@ -49,15 +51,11 @@ use Rattle.print_line.specs.definitions.Line.{refused_line}
 use Rattle.print_file.specs.definitions.Output.{lines_of, blank, events_at, first_at, output_of}
 use Rattle.print_file.specs.definitions.Filling.{ran_at}
 use Rattle.print_file.specs.definitions.Place.{Place, end_up_to}
-use Rattle.call_table.specs.declared.Reply.TheVariants as reply
-use Rattle.call_table.specs.declared.Number.TheVariants as number
-use Rattle.call_table.specs.declared.RangeReply.TheVariants as range
 use Rattle.call_table.specs.definitions.Call as call
 use Rattle.call_table.specs.definitions.Call.{refusal_by, run_refusal, ran, run_in, check_in}
 use Rattle.arbiter.specs.declared.State.{State}
-use Rattle.arbiter.specs.declared.Arbitration.TheVariants as arbitration
 use Rattle.arbiter.specs.definitions.Arbiter as arbiter
-use Rattle.arbiter.specs.definitions.Arbiter.{step, answer_of, arbitrate, refusal_of}
+use Rattle.arbiter.specs.definitions.Arbiter.{step, turn_of, arbitrate}
 use Rattle.call_numbers.specs.definitions.Numbers.{eight, zeros, arbitration_numbers}
 use Rattle.call_numbers.specs.definitions.Called.{Called, refused_call}
 use Rattle.call_save.specs.definitions.Save.{save_in, buffer_in}
@@ -161,9 +159,9 @@ pub record Order (t : Tree) (g : seating.Grants) (im : Images) (field seat : ℕ
 module _ (rack : Rack) (im : Images) where
   pub record Read (i register : ℕ) : Type 0 where
     pub refused : (refusal_by (tree rack) (grants rack) im (call.read_refusal (tree rack) i register) 0 ≡ 0 → ⊥)
-        → call.read_in (tree rack) (grants rack) im i register ≡ number.Refused (refusal_by (tree rack) (grants rack) im (call.read_refusal (tree rack) i register) 0)
+        → call.read_in (tree rack) (grants rack) im i register ≡ Err (refusal_by (tree rack) (grants rack) im (call.read_refusal (tree rack) i register) 0)
     pub answers : refusal_by (tree rack) (grants rack) im (call.read_refusal (tree rack) i register) 0 ≡ 0
-        → call.read_in (tree rack) (grants rack) im i register ≡ number.Value (read_register (view (tree rack) im i) register)
+        → call.read_in (tree rack) (grants rack) im i register ≡ Ok (read_register (view (tree rack) im i) register)
 
   pub record Write (i register enables put : ℕ) : Type 0 where
     pub refused : (refusal_by (tree rack) (grants rack) im (call.store_refusal (tree rack) i register enables) 0 ≡ 0 → ⊥)
@@ -179,30 +177,30 @@ module _ (rack : Rack) (im : Images) where
   -- 01: 'A region has 2 to the e bytes', 'A kind 0 region has size 0'
   pub record Size (i r : ℕ) : Type 0 where
     pub refused : (refusal_by (tree rack) (grants rack) im (call.region_refusal (tree rack) i r) 0 ≡ 0 → ⊥)
-        → call.size_in (tree rack) (grants rack) im i r ≡ number.Refused (refusal_by (tree rack) (grants rack) im (call.region_refusal (tree rack) i r) 0)
+        → call.size_in (tree rack) (grants rack) im i r ≡ Err (refusal_by (tree rack) (grants rack) im (call.region_refusal (tree rack) i r) 0)
     pub answers : refusal_by (tree rack) (grants rack) im (call.region_refusal (tree rack) i r) 0 ≡ 0
         → call.size_in (tree rack) (grants rack) im i r
-        ≡ number.Value (cond (eqb (region_in ((tree rack).node i) r).kind 0) 0 (2 ^ (region_in ((tree rack).node i) r).exponent))
+        ≡ Ok (cond (eqb (region_in ((tree rack).node i) r).kind 0) 0 (2 ^ (region_in ((tree rack).node i) r).exponent))
 
   pub record Window (i k : ℕ) : Type 0 where
     pub refused : (refusal_by (tree rack) (grants rack) im (call.window_refusal (tree rack) i k) 0 ≡ 0 → ⊥)
-        → call.ends_in (tree rack) (grants rack) im i k ≡ range.Refused (refusal_by (tree rack) (grants rack) im (call.window_refusal (tree rack) i k) 0)
+        → call.ends_in (tree rack) (grants rack) im i k ≡ Err (refusal_by (tree rack) (grants rack) im (call.window_refusal (tree rack) i k) 0)
     pub answers : refusal_by (tree rack) (grants rack) im (call.window_refusal (tree rack) i k) 0 ≡ 0
-        → call.ends_in (tree rack) (grants rack) im i k ≡ range.Range (window_ends (tree rack) im i k)
+        → call.ends_in (tree rack) (grants rack) im i k ≡ Ok (window_ends (tree rack) im i k)
 
   -- 02, E1: 'A call that runs an event is told the acting seat'
   pub record Run (seat : ℕ) (e : Event) : Type 0 where
     pub refused : (run_refusal (tree rack) (acting (grants rack) seat) im e ≡ 0 → ⊥)
         → run_in (tree rack) (acting (grants rack) seat) im e
-        ≡ gives (reply.Refused (run_refusal (tree rack) (acting (grants rack) seat) im e)) im
+        ≡ gives (Err (run_refusal (tree rack) (acting (grants rack) seat) im e)) im
     pub answers : run_refusal (tree rack) (acting (grants rack) seat) im e ≡ 0
         → run_in (tree rack) (acting (grants rack) seat) im e ≡ ran (event_run (tree rack) (acting (grants rack) seat) im e)
 
   pub record Check : Type 0 where
     pub refused : (refusal_by (tree rack) (grants rack) im 0 0 ≡ 0 → ⊥)
-        → check_in (tree rack) (grants rack) im ≡ reply.Refused (refusal_by (tree rack) (grants rack) im 0 0)
+        → check_in (tree rack) (grants rack) im ≡ Err (refusal_by (tree rack) (grants rack) im 0 0)
     pub answers : refusal_by (tree rack) (grants rack) im 0 0 ≡ 0
-        → check_in (tree rack) (grants rack) im ≡ reply.Answered (Checked (check (tree rack) im))
+        → check_in (tree rack) (grants rack) im ≡ Ok (Checked (check (tree rack) im))
 
 -- rack_reset from C, which refuses 1 to 10, 11 and 14
 pub record Reset (b : List ℕ) (im : Images) : Type 0 where
@@ -217,12 +215,12 @@ pub record Reset (b : List ℕ) (im : Images) : Type 0 where
 -- buffer untouched, and a file that fits the bytes past it'. It answers the file's length, and no file is longer than 14,609 bytes
 pub record Save (rack : Rack) (im : Images) (old : List ℕ) : Type 0 where
   pub refused : (refusal_by (tree rack) (grants rack) im 0 0 ≡ 0 → ⊥)
-      → (save_in (tree rack) (grants rack) im (length old) ≡ number.Refused (refusal_by (tree rack) (grants rack) im 0 0))
+      → (save_in (tree rack) (grants rack) im (length old) ≡ Err (refusal_by (tree rack) (grants rack) im 0 0))
       × (buffer_in (tree rack) (grants rack) im old ≡ old)
   pub short : refusal_by (tree rack) (grants rack) im 0 0 ≡ 0 → length old < length (saved_file (tree rack) (grants rack) im)
-      → (save_in (tree rack) (grants rack) im (length old) ≡ number.Refused 11) × (buffer_in (tree rack) (grants rack) im old ≡ old)
+      → (save_in (tree rack) (grants rack) im (length old) ≡ Err 11) × (buffer_in (tree rack) (grants rack) im old ≡ old)
   pub answers : refusal_by (tree rack) (grants rack) im 0 0 ≡ 0 → length (saved_file (tree rack) (grants rack) im) ≤ length old
-      → (save_in (tree rack) (grants rack) im (length old) ≡ number.Value (length (saved_file (tree rack) (grants rack) im)))
+      → (save_in (tree rack) (grants rack) im (length old) ≡ Ok (length (saved_file (tree rack) (grants rack) im)))
       × (buffer_in (tree rack) (grants rack) im old ≡ over_start old (saved_file (tree rack) (grants rack) im))
   pub most : refusal_by (tree rack) (grants rack) im 0 0 ≡ 0 → length (saved_file (tree rack) (grants rack) im) ≤ 14609
 
@@ -253,16 +251,16 @@ pub record COpen (b : List ℕ) (im : Images) : Type 0 where
 -- 02, E14: a step of the arbiter, as an open call and from C. It has no image; 'A mask or request set with a bit above 9, or a state that
 -- names a place its ring lacks, is 20'
 pub record Grants (mask requests : ℕ) (s : State) : Type 0 where
-  pub refused : arbiter.refused mask requests s ≡ true → arbitrate mask requests s ≡ arbitration.Refused 20
-  pub answers : arbiter.refused mask requests s ≡ false → arbitrate mask requests s ≡ answer_of (step mask requests s)
+  pub refused : arbiter.refused mask requests s ≡ true → arbitrate mask requests s ≡ Err BadArbitration
+  pub answers : arbiter.refused mask requests s ≡ false → arbitrate mask requests s ≡ Ok (turn_of (step mask requests s))
 
 pub record CGrants (mask requests high low : ℕ) : Type 0 where
   pub refused : arbiter.refused mask requests (record { high = high; low = low }) ≡ true
-      → (refusal_of (rack_grant mask requests high low) ≡ 20) × (arbitration_numbers (rack_grant mask requests high low) ≡ zeros)
+      → (number_of (rack_grant mask requests high low) ≡ 20) × (arbitration_numbers (rack_grant mask requests high low) ≡ zeros)
   pub answers : arbiter.refused mask requests (record { high = high; low = low }) ≡ false
-      → (refusal_of (rack_grant mask requests high low) ≡ 0)
+      → (number_of (rack_grant mask requests high low) ≡ 0)
       × (arbitration_numbers (rack_grant mask requests high low)
-      ≡ arbitration_numbers (answer_of (step mask requests (record { high = high; low = low }))))
+      ≡ arbitration_numbers (Ok (turn_of (step mask requests (record { high = high; low = low })))))
 
 pub record Demand1 : Type 0 where
   pub bytes : (whole : Bool) (b : List ℕ) → Bytes whole b
@@ -284,11 +282,11 @@ pub record Demand1 : Type 0 where
       (call.seat_refusal (acting (rack_alone b).grants seat) (event_in event 0))
       (replied_call (ran (event_run (rack_alone b).tree (acting (rack_alone b).grants seat) im (event_in event 0)))) (rack_run b seat event im)
   pub c_checks : (b : List ℕ) (im : Images)
-      → InOrder b 0 im 0 0 (replied_call (gives (reply.Answered (Checked (check (rack_alone b).tree im))) im))
+      → InOrder b 0 im 0 0 (replied_call (gives (Ok (Checked (check (rack_alone b).tree im))) im))
       (rack_check b im)
   pub c_windows : (b : List ℕ) (im : Images) (i k : ℕ)
       → InOrder b 0 im (call.window_refusal (rack_alone b).tree i k) 0
-      (ends_call (range.Range (window_ends (rack_alone b).tree im i k)) im) (rack_window b im i k)
+      (ends_call (Ok (window_ends (rack_alone b).tree im i k)) im) (rack_window b im i k)
   pub c_reset : (b : List ℕ) (im : Images) → Reset b im
   pub saves : (rack : Rack) (im : Images) (old : List ℕ) → Save rack im old
   pub c_saves : (b : List ℕ) (im : Images) (old : List ℕ) → CSave b im old
@@ -373,7 +371,7 @@ pub record CheckedAt (t : Tree) (im : Images) (r : Result Answer) : Type 0 where
   pub passes : OneClaimant t im → r.answer ≡ Checked Pass
   pub faulted : (OneClaimant t im → ⊥)
       → (bus : ℕ) × (space : Space) × (a : ℕ) × (driver : ℕ) × (x : ℕ) × (y : ℕ)
-      × (r.answer ≡ Checked (Fault bus space a driver x y)) × FirstFault t im bus space a driver x y
+      × (r.answer ≡ Checked (fault bus space a driver x y)) × FirstFault t im bus space a driver x y
 
 -- where the run of a file stands after its first n events
 abbrev pub after : List ℕ → ℕ → Place
@@ -382,12 +380,12 @@ after b n =
 
 -- over the calls on a decoded rack, run_check and run_event
 pub record Checked3 (rack : Rack) (im : Images) : Type 0 where
-  pub passed : check_in (tree rack) (grants rack) im ≡ reply.Answered (Checked Pass)
+  pub passed : check_in (tree rack) (grants rack) im ≡ Ok (Checked Pass)
       → (rack_refusal (tree rack) ≡ 0) × (image_refusal (tree rack) im ≡ 0) × ((grants rack).wrong ≡ false) × OneClaimant (tree rack) im
   pub passes : rack_refusal (tree rack) ≡ 0 → image_refusal (tree rack) im ≡ 0 → (grants rack).wrong ≡ false → OneClaimant (tree rack) im
-      → check_in (tree rack) (grants rack) im ≡ reply.Answered (Checked Pass)
+      → check_in (tree rack) (grants rack) im ≡ Ok (Checked Pass)
   pub faulted : (bus : ℕ) (space : Space) (a driver x y : ℕ)
-      → check_in (tree rack) (grants rack) im ≡ reply.Answered (Checked (Fault bus space a driver x y))
+      → check_in (tree rack) (grants rack) im ≡ Ok (Checked (fault bus space a driver x y))
       → FirstFault (tree rack) im bus space a driver x y
 
 -- a check that is an event is that check, whichever seat acts: of run_event and rack_run as of run_check and rack_check, and in a file on
@@ -476,7 +474,7 @@ pub record CDenied3 (b : List ℕ) (seat : ℕ) (event : List ℕ) (im : Images)
 pub record Demand3 : Type 0 where
   pub checked : (rack : Rack) (im : Images) → Checked3 rack im
   pub check_events : CheckEvents
-  pub passed : (rack : Rack) (im : Images) → check_in (tree rack) (grants rack) im ≡ reply.Answered (Checked Pass) → Passed3 rack im
+  pub passed : (rack : Rack) (im : Images) → check_in (tree rack) (grants rack) im ≡ Ok (Checked Pass) → Passed3 rack im
   pub crossed : (rack : Rack) (im : Images) (seat : ℕ) (e : Event)
       → crossings (run_in (tree rack) (acting (grants rack) seat) im e).answer
       ≤ depth (tree rack) (start_bus (tree rack) e) + greatest_depth (tree rack)
@@ -556,7 +554,7 @@ pub record BusResets : Type 0 where
   pub passed : (t : Tree) (im : Images) → rack_refusal t ≡ 0 → image_refusal t im ≡ 0 → check t im ≡ Pass → OneOther t im
   pub passes : (t : Tree) (im : Images) → rack_refusal t ≡ 0 → image_refusal t im ≡ 0 → OneOther t im → check t im ≡ Pass
   pub faulted : (t : Tree) (im : Images) → rack_refusal t ≡ 0 → image_refusal t im ≡ 0 → (bus : ℕ) (space : Space) (a driver x y : ℕ)
-      → check t im ≡ Fault bus space a driver x y → FirstOther t im bus space a driver x y
+      → check t im ≡ fault bus space a driver x y → FirstOther t im bus space a driver x y
   -- 'The bridge itself keeps claiming': bit 6 plays no part in what it claims, on either side
   pub keeps_claiming : (t : Tree) (im im' : Images) (g : ℕ) → is_bridge (t.node g).kind ≡ true → SameButReset (view t im g) (view t im' g)
       → (s : Space) (bus a : ℕ) → claims t im s bus g a ≡ claims t im' s bus g a

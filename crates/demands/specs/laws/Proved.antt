@@ -1,5 +1,5 @@
 -- The demands are met.
-use Rattle.std.specs.Prelude.{◌≡◌, refl, Bool, false, List, ℕ}
+use Rattle.std.specs.Prelude.{◌≡◌, refl, Bool, false, List, Ok, Err, ℕ}
 use Rattle.std.proofs.Common.{ap, arith}
 use Rattle.rack.specs.declared.Rack.{Rack}
 use Rattle.rack.specs.definitions.Tree.{Tree}
@@ -18,8 +18,7 @@ use Rattle.register_laws.specs.laws.FalseImages as images
 use Rattle.claim_laws.specs.laws.Held.{asked, held_claims}
 use Rattle.claim_laws.specs.laws.ResetBit.{reset_claims}
 use Rattle.claim_agent.specs.declared.Space.{Space}
-use Rattle.check_search.specs.declared.Report.{Report}
-use Rattle.check_search.specs.declared.Report.TheVariants.{Pass, Fault}
+use Rattle.check_search.specs.definitions.Report.{Report, Pass, fault}
 use Rattle.check_search.specs.definitions.Check.{check}
 use Rattle.held_laws.specs.laws.OtherCheck.{check_others}
 use Rattle.file_record.specs.definitions.Load.{Loading, file_in, rack_alone}
@@ -51,9 +50,7 @@ use Rattle.demand_passed.specs.definitions.OneClaimant.{OneClaimant}
 use Rattle.demand_passed.specs.definitions.FirstFault.{FirstFault}
 use Rattle.demand_passed.specs.laws.Clear as clear
 use Rattle.demand_passed.specs.laws.Clear.{one_other, other_one, other_faulted}
-use Rattle.arbiter.specs.definitions.Arbiter.{step}
-use Rattle.arbiter.specs.laws.Answers.{is_refused, is_answered, no_refusal}
-use Rattle.call_table.specs.declared.Reply.TheVariants as reply
+use Rattle.arbiter.specs.laws.Answers.{is_refused, is_answered}
 use Rattle.call_table.specs.definitions.Call.{refusal_by, check_in}
 use Rattle.muzgante.specs.definitions.Called.{rack_check}
 use Rattle.demand_calls.specs.laws.Refusing as refusing
@@ -97,8 +94,7 @@ c_grants mask requests high low =
     record {
       refused = λ e. rw (is_refused mask requests (record { high = high; low = low }) e) (refl, refl);
       answers = λ e.
-          rw (is_answered mask requests (record { high = high; low = low }) e)
-          (no_refusal (step mask requests (record { high = high; low = low })), refl);
+          rw (is_answered mask requests (record { high = high; low = low }) e) (refl, refl);
     }
 
 pub demand1 : Demand1
@@ -226,10 +222,10 @@ checked_at t im =
 
     shows : (r : Report) → check t im ≡ r → (OneClaimant t im → ⊥)
         → (bus : ℕ) × (space : Space) × (a : ℕ) × (driver : ℕ) × (x : ℕ) × (y : ℕ)
-        × (Checked (check t im) ≡ Checked (Fault bus space a driver x y)) × FirstFault t im bus space a driver x y
-    shows Pass e ne = absurd (ne (clear.passed t im e))
-    shows (Fault bus space a driver x y) e ne =
-        (bus, space, a, driver, x, y, ap Checked e, clear.faulted t im bus space a driver x y e)
+        × (Checked (check t im) ≡ Checked (fault bus space a driver x y)) × FirstFault t im bus space a driver x y
+    shows (Ok _) e ne = absurd (ne (clear.passed t im e))
+    shows (Err f) e ne =
+        (f.holder, f.space, f.value, f.driver, f.first, f.second, ap Checked e, clear.faulted t im f.holder f.space f.value f.driver f.first f.second e)
 
 check_events : demands.CheckEvents
 unfolding event_run
@@ -240,7 +236,7 @@ check_events =
       files = λ b ok n e. rw e (checked_at (file_in b).tree (demands.after b n).before);
     }
 
-passed : (rack : Rack) (im : Images) → check_in (tree rack) (grants rack) im ≡ reply.Answered (Checked Pass) → demands.Passed3 rack im
+passed : (rack : Rack) (im : Images) → check_in (tree rack) (grants rack) im ≡ Ok (Checked Pass) → demands.Passed3 rack im
 passed rack im pass =
     record {
       goes = λ im' same seat e f z. decoded.rack_goes rack im pass im' same seat e f z;

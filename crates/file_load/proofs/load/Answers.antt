@@ -1,12 +1,13 @@
+use mathlib.Core.Path.{sym}
+use borrow.Author.Tests.{eqb-true, eqb-false}
 use Rattle.file_record.specs.laws.LoadsLaws.{loads_over, loads_empty, loads_all}
-use borrow.Author.Rules.{rules}
 use Rattle.file_load.proofs.load.Goals as goal
 
 pub returns-then-file-gt65536 : goal.returns-then-file-gt65536
-returns-then-file-gt65536 c = search (loads_over, rules)
+returns-then-file-gt65536 c = loads_over _ _ c.if-file-gt65536.true
 
-pub returns-then-file-eq0 : goal.returns-then-file-eq0
-returns-then-file-eq0 c = search (loads_empty, rules)
+pub returns-then-is_empty : goal.returns-then-is_empty
+returns-then-is_empty c = loads_empty _ _ (eqb-true _ _ (sym c.if-is_empty.ensures))
 
 pub returns : goal.returns
-returns c = search (loads_all, rules)
+returns c = loads_all _ _ _ c.if-file-gt65536.false (eqb-false _ _ (sym c.if-is_empty.ensures)) c.read.ensures

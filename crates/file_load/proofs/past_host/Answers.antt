@@ -1,5 +1,5 @@
-use Rattle.file_record.specs.laws.Steps.{host_past}
 use borrow.Author.Rules.{rules}
+use Rattle.file_record.specs.laws.Steps.{host_past}
 use Rattle.file_load.proofs.past_host.Goals as goal
 
 pub returns : goal.returns

@@ -1,9 +1,7 @@
-use Rattle.file_record.specs.laws.Steps.{step_stops, registers_past}
-use borrow.Author.Rules.{rules}
+use Rattle.file_record.specs.laws.Steps.{registers_past}
 use Rattle.file_load.proofs.past_registers.Goals as goal
 
-pub returns-then-fault-ne0 : goal.returns-then-fault-ne0
-returns-then-fault-ne0 c = search (step_stops, rules)
-
 pub returns : goal.returns
-returns c = search (registers_past, rules)
+returns c =
+    registers_past _ c.args.w _ _ c.past.ensures c.requires.3 c.byte_at-node.ensures c.in_ok-register_fault.ensures
+    c.begin.ensures

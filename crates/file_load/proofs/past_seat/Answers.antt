@@ -1,9 +1,6 @@
-use Rattle.file_record.specs.laws.Steps.{step_stops, seat_past}
-use borrow.Author.Rules.{rules}
+use Rattle.file_record.specs.laws.Steps.{seat_past}
 use Rattle.file_load.proofs.past_seat.Goals as goal
 
-pub returns-then-fault-ne0 : goal.returns-then-fault-ne0
-returns-then-fault-ne0 c = search (step_stops, rules)
-
 pub returns : goal.returns
-returns c = search (seat_past, rules)
+returns c =
+    seat_past _ c.args.w _ _ c.past.ensures c.requires.1 c.in_ok-take_seat.ensures.fault c.in_ok-take_seat.ensures.taken

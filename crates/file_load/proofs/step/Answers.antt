@@ -1,36 +1,40 @@
-use Rattle.file_record.specs.laws.Steps.{class_told, host_left, registers_end, shape_stops, node_goes, event_goes, seat_goes, registers_goes, host_goes}
 use borrow.Author.Rules.{rules}
+use Rattle.file_record.specs.definitions.Loads.{reading_of}
+use Rattle.file_record.specs.laws.Steps.{shape_stops, registers_end, unknown_refused, node_goes, event_goes, seat_goes, registers_goes, host_goes}
 use Rattle.file_load.proofs.step.Goals as goal
 
-pub returns-then-fault-ne0 : goal.returns-then-fault-ne0
-returns-then-fault-ne0 c = search (shape_stops, rules)
-
-pub past_node-requires : goal.past_node-requires
-past_node-requires c = search (class_told, rules)
-
-pub returns-then-is_a : goal.returns-then-is_a
-returns-then-is_a c = search (node_goes, rules)
-
-pub past_event-requires : goal.past_event-requires
-past_event-requires c = search (class_told, rules)
-
-pub returns-then-is_a-2 : goal.returns-then-is_a-2
-returns-then-is_a-2 c = search (event_goes, rules)
-
-pub past_seat-requires : goal.past_seat-requires
-past_seat-requires c = search (class_told, rules)
-
-pub returns-then-is_a-3 : goal.returns-then-is_a-3
-returns-then-is_a-3 c = search (seat_goes, rules)
+pub returns-in_err-shape_fault : goal.returns-in_err-shape_fault
+returns-in_err-shape_fault c =
+    shape_stops c.args.whole _ (reading_of c.args.w c.args.table.now c.args.grants.now) c.class_in-class.ensures _ _
+    c.from_residual.ensures.1 c.in_err-shape_fault.ensures
 
 pub past_registers-requires : goal.past_registers-requires
-past_registers-requires c = search (registers_end, class_told, rules)
+past_registers-requires c = search (registers_end, rules)
 
-pub returns-then-is_a-4 : goal.returns-then-is_a-4
-returns-then-is_a-4 c = search (registers_goes, rules)
+pub unreachable-requires : goal.unreachable-requires
+unreachable-requires c = unknown_refused _ _ _ _ _ c.in_ok-shape_fault.ensures c.in-Unknown.is
 
-pub past_host-requires : goal.past_host-requires
-past_host-requires c = search (host_left, rules)
+pub returns-in-Node : goal.returns-in-Node
+returns-in-Node c =
+    node_goes _ _ (reading_of c.args.w c.args.table.now c.args.grants.now) c.class_in-class.ensures c.in_ok-shape_fault.ensures
+    c.in-Node.is c.past_node.ensures
 
-pub returns : goal.returns
-returns c = search (host_goes, host_left, rules)
+pub returns-in-Event : goal.returns-in-Event
+returns-in-Event c =
+    event_goes _ _ (reading_of c.args.w c.args.table.now c.args.grants.now) c.class_in-class.ensures c.in_ok-shape_fault.ensures
+    c.in-Event.is c.past_event.ensures
+
+pub returns-in-Seat : goal.returns-in-Seat
+returns-in-Seat c =
+    seat_goes _ _ (reading_of c.args.w c.args.table.now c.args.grants.now) c.class_in-class.ensures c.in_ok-shape_fault.ensures
+    c.in-Seat.is c.past_seat.ensures
+
+pub returns-in-Registers : goal.returns-in-Registers
+returns-in-Registers c =
+    registers_goes _ _ (reading_of c.args.w c.args.table.now c.args.grants.now) c.class_in-class.ensures c.in_ok-shape_fault.ensures
+    c.in-Registers.is c.past_registers.ensures
+
+pub returns-in-Host : goal.returns-in-Host
+returns-in-Host c =
+    host_goes _ _ (reading_of c.args.w c.args.table.now c.args.grants.now) c.class_in-class.ensures c.in_ok-shape_fault.ensures
+    c.in-Host.is c.past_host.ensures

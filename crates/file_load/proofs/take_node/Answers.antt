@@ -1,10 +1,9 @@
-use native.Mathlib.Omega.{arith}
-use Rattle.file_record.specs.laws.Steps.{node_full, node_fault_lem, node_added}
 use borrow.Author.Rules.{rules}
+use Rattle.file_record.specs.laws.Steps.{node_full, node_fault_lem}
 use Rattle.file_load.proofs.take_node.Goals as goal
 
-pub returns-then-count-ge96 : goal.returns-then-count-ge96
-returns-then-count-ge96 c = (search (node_full, rules), λ q. absurd (omega (arith, q)))
+pub returns-then-count-ge96-clause-fault : goal.returns-then-count-ge96-clause-fault
+returns-then-count-ge96-clause-fault c = search (node_full, rules)
 
-pub returns : goal.returns
-returns c = (search (node_fault_lem, rules), λ q. search (node_added, rules))
+pub returns-clause-fault : goal.returns-clause-fault
+returns-clause-fault c = search (node_fault_lem, rules)

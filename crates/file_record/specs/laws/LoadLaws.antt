@@ -1,23 +1,29 @@
 -- A rack that is read is accepted and stores what its nodes say, its file has at most 65,536 bytes, its events begin within
 -- the file, and its host memory is the first record's.
-use Rattle.std.specs.Prelude.{◌≡◌, refl, Bool, true, false, cond, List, ℕ, ◌+◌, ◌≤◌, ◌<◌, ltb, eqb, length, ◌⊎◌}
+use Rattle.std.specs.Prelude.{◌≡◌, refl, Bool, true, false, not, ◌&&◌, cond, List, [], ◌∷◌, ℕ, ◌+◌, ◌≤◌, ◌<◌, ltb, eqb, length, ◌⊎◌}
 use Rattle.std.proofs.Common.{arith, lit<}
 use Rattle.std.proofs.Math.Logic.{inl, inr, ⊎_elim}
 use borrow.Author.Tests.{not-false, ltb-true, ltb-false, eqb-true, eqb-false, eq-eqb, ne_eqb}
 use Rattle.rack.specs.laws.Bools.{tested}
-use Rattle.rack.specs.definitions.First.{◌or◌}
+use Rattle.rack.specs.declared.Node.{Node}
+use Rattle.rack.specs.declared.refusal.Refusal.{Refusal}
+use Rattle.rack.specs.declared.refusal.Refusal.TheVariants.{TooLong, UnknownKind, CutShort, HostMisplaced, Misordered, TooManyNodes, BadParent, HighDevice, TakenDevice, BadRegion, BadField, BadSeatRecord, UnknownSeat, MisplacedRegisters, BadRegisters, HeldRegisters}
+use Rattle.rack.specs.definitions.First.{◌when◌, ◌or◌, first}
+use Rattle.rack.specs.definitions.Refused.{refusal_number}
 use Rattle.rack.specs.definitions.Stored.{Stored}
-use Rattle.rack.specs.definitions.Grow.{no_memory, memory_of, grown}
-use Rattle.rack.specs.definitions.Refusal.{rack_refusal}
+use Rattle.rack.specs.definitions.Grow.{no_memory, memory_of, nodes_with, grown}
+use Rattle.rack.specs.definitions.Refusal.{too_many, bad_parent, high_device, taken_device, bad_region, node_refusal, rack_refusal}
 use Rattle.rack_laws.specs.laws.First.{at, list_none_given}
 use Rattle.rack_laws.specs.laws.OnePass.{StoredBy, none_stored, grown_stored}
 use Rattle.rack_laws.specs.laws.Stored.{by_stored}
 use Rattle.rack_laws.specs.laws.Grown.{none_accepted, grown_accepted}
+use Rattle.file_record.specs.declared.Class.{Class}
 use Rattle.file_record.specs.declared.Class.TheVariants as class
 use Rattle.file_record.specs.definitions.Number.{byte_in}
-use Rattle.file_record.specs.definitions.Record.{size_of, class_in, is_a, host_in, node_in}
+use Rattle.file_record.specs.definitions.Record.{size_of, class_in, is_a, is_known, cut_short, host_in, node_in, registers_in}
+use Rattle.file_record.specs.definitions.Events.{event_in, event_wrong, event_unknown}
 use Rattle.file_record.specs.laws.RecordLaws.{host_size}
-use Rattle.file_record.specs.definitions.Load.{Reading, node_fault, record_faults, record_fault, taken, read_in, file_in, rack_alone}
+use Rattle.file_record.specs.definitions.Load.{Reading, host_wrong, follows_later, shape_fault, node_fault, is_faulty, misplaced, unsound, record_held, record_faults, record_fault, taken, read_in, file_in, rack_alone}
 use Rattle.file_record.specs.laws.Steps.{shape_ends, shape_host}
 use Rattle.file_record.specs.laws.Turns.{read_over, read_empty, in_has}
 
@@ -189,6 +195,70 @@ module _ (whole : Bool) (b : List ℕ) where
       (λ s p i f. (λ h. taken_host whole b s p.0 f, p.1)) (λ s p e n q. p.0 (omega (arith, n))) (λ s p i f n q. absurd (f q))
       (λ h e. (λ q. absurd (omega arith), e)) (λ h n q. absurd (omega (arith, q))) (λ e n. absurd (n e)) (read_some z) z
 
+-- what refuses a file is one of the refusals
+Named : ℕ → Type 0
+Named n = (n ≡ 0) ⊎ ((r : Refusal) × (refusal_number r ≡ n))
+
+named_if : (r : Refusal) (x : Bool) → Named (refusal_number r when x)
+unfolding Named
+named_if r true = inr (r, refl)
+named_if r false = inl refl
+
+named_when : (n : ℕ) (x : Bool) → Named n → Named (n when x)
+unfolding Named
+named_when n true h = h
+named_when n false h = inl refl
+
+named_none : Named (first [])
+unfolding Named first
+named_none = inl refl
+
+named_first : (n : ℕ) (ns : List ℕ) → Named n → Named (first ns) → Named (first (n ∷ ns))
+unfolding first
+named_first n ns h l = tested (eqb n 0) (λ q. rw q l) (λ q. rw q h)
+
+named_node : (node : ℕ → Node) (i : ℕ) → Named (node_refusal node i)
+unfolding node_refusal
+named_node node i =
+    named_first _ _ (named_if TooManyNodes (too_many node i))
+    (named_first _ _ (named_if BadParent (bad_parent node i))
+    (named_first _ _ (named_if HighDevice (high_device node i))
+    (named_first _ _ (named_if TakenDevice (taken_device node i))
+    (named_first _ _ (named_if BadRegion (bad_region node i)) named_none))))
+
+module _ (whole : Bool) (b : List ℕ) where
+  named_shape : (c : Class) (o registers events : ℕ) → Named (shape_fault whole b c o registers events)
+  unfolding shape_fault
+  named_shape c o registers events =
+      named_first _ _ (named_if UnknownKind (not (is_known whole c)))
+      (named_first _ _ (named_if CutShort (cut_short b o))
+      (named_first _ _ (named_if HostMisplaced (host_wrong c o))
+      (named_first _ _ (named_if Misordered (follows_later c registers events)) named_none)))
+
+  named_fault : (s : Reading) → Named (record_fault whole b s)
+  unfolding record_fault node_fault
+  named_fault s =
+      let is : Class → Bool = λ k. is_a k (class_in b s.offset) in
+      named_first _ _ (named_shape (class_in b s.offset) s.offset s.registers s.events)
+      (named_first _ _ (named_when _ (is class.Node) (named_node (nodes_with s.tree (node_in b s.offset)) s.tree.count))
+      (named_first _ _ (named_when _ (is class.Event) (named_if BadField (event_wrong s.tree (event_in b s.offset))))
+      (named_first _ _ (named_when _ (whole && is class.Seat) (named_if BadSeatRecord (is_faulty b s.offset s.tree s.grants)))
+      (named_first _ _ (named_when _ (is class.Event) (named_if UnknownSeat (event_unknown s.grants (event_in b s.offset))))
+      (named_first _ _ (named_when _ (is class.Registers) (named_if MisplacedRegisters (misplaced b s.offset s.tree s.least)))
+      (named_first _ _
+      (named_when _ (is class.Registers)
+      (named_if BadRegisters (unsound (s.tree.node (byte_in b (s.offset + 1))) (registers_in b s.offset))))
+      (named_first _ _
+      (named_when _ (is class.Registers)
+      (named_if HeldRegisters (record_held b s.offset s.tree (s.registers or s.offset))))
+      named_none)))))))
+
+  read_named : Named (read_in whole b).refusal
+  unfolding Named
+  read_named =
+      in_has whole b (λ s. Unit {0}) (λ d. Named d.refusal) (λ s p i z. tt) (λ s p e. inl refl) (λ s p i z. named_fault s) (λ h e. tt)
+      (λ h. inr (TooLong, refl)) (λ e. inr (HostMisplaced, refl))
+
 -- the same of a whole file, and of the rack bytes of a C call
 module _ (b : List ℕ) where
   pub alone_accepted : (rack_alone b).refusal ≡ 0 → rack_refusal (rack_alone b).tree ≡ 0
@@ -213,3 +283,8 @@ module _ (b : List ℕ) where
   -- the offset of a refusal, and the offset at which an accepted file's events begin
   pub file_offset : (file_in b).offset ≤ 65536
   file_offset = read_offset true b
+
+  -- and what refuses it
+  pub file_named : ((file_in b).refusal ≡ 0 → ⊥) → (r : Refusal) × (refusal_number r ≡ (file_in b).refusal)
+  unfolding Named
+  file_named z = ⊎_elim (λ e. absurd (z e)) (λ h. h) (read_named true b)

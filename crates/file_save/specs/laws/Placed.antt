@@ -1,14 +1,13 @@
 -- Bytes written one after another.
-use Rattle.std.specs.Prelude.{◌≡◌, refl, List, [], ◌∷◌, ◌++◌, ℕ, ◌+◌, ◌≤◌, length, take, drop, set}
-use Rattle.std.proofs.Common.{sym, ap, ◌∙◌, append_assoc, arith, zero-add, add-zero, add-one, length-append, length-drop, take-append-drop, length-take-le, take_at, drop_at, drop-drop}
-use Rattle.std.proofs.lemmas.List.{set_split}
+use Rattle.std.specs.Prelude.{◌≡◌, refl, List, [], ◌++◌, ℕ, ◌+◌, ◌≤◌, length, take, drop}
+use Rattle.std.proofs.Common.{sym, ap, ◌∙◌, append_assoc, arith, zero-add, add-zero, length-append, length-drop, take-append-drop, length-take-le, take_at, drop_at, drop-drop}
 use Rattle.rack.specs.definitions.Buffer.{placed, over_start}
 
 pub placed_opened : (at : ℕ) (s old : List ℕ) → placed at s old ≡ take at old ++ (s ++ drop (at + length s) old)
 unfolding placed
 placed_opened at s old = refl
 
--- nothing written; at the start; one byte
+-- nothing written; at the start
 pub placed_none : (at : ℕ) (old : List ℕ) → placed at [] old ≡ old
 unfolding placed
 placed_none at old = ap (λ (n : ℕ). take at old ++ drop n old) (add-zero at) ∙ take-append-drop at old
@@ -16,10 +15,6 @@ placed_none at old = ap (λ (n : ℕ). take at old ++ drop n old) (add-zero at) 
 pub placed_start : (s old : List ℕ) → placed 0 s old ≡ over_start old s
 unfolding placed
 placed_start s old = ap (λ (n : ℕ). s ++ drop n old) (zero-add (length s))
-
-pub placed_byte : (at n : ℕ) (old : List ℕ) → at + 1 ≤ length old → set old at n ≡ placed at (n ∷ []) old
-unfolding placed
-placed_byte at n old h = rw add-one (set_split old at n (omega arith))
 
 module _ (at : ℕ) (a old : List ℕ) (fits : at + length a ≤ length old) where
   head_long : length (take at old ++ a) ≡ at + length a

@@ -1,15 +1,9 @@
-use mathlib.Core.Path.{◌≡◌}
-use Prim.Native.Nat.{◌-◌}
-use lib.ListN.{length}
-use Rattle.rack.specs.definitions.Table.{tree_of}
-use Rattle.register_image.specs.definitions.Image.{images}
+use Prim.Native.Nat.{◌+◌, ◌*◌}
+use Rattle.register_image.specs.definitions.LentMut.{tree_at, images_at, Same}
 use Rattle.file_start.proofs.Turns.{Left}
 use Rattle.file_start.proofs.set_records.Given as goal
 
-abbrev pub invariant-loop-o : goal.invariant-loop-o
-invariant-loop-o l =
-    (length l.bridges ≡ length l.initial.bridges) × (length l.devices ≡ length l.initial.devices)
-    × Left l.file (tree_of l.table) l.registers l.end (images l.initial.bridges l.initial.devices) l.o (images l.bridges l.devices)
-
-abbrev pub decreases-loop-o : goal.decreases-loop-o
-decreases-loop-o l = l.end - l.o
+abbrev pub invariant-loop-i : goal.invariant-loop-i
+invariant-loop-i l =
+    Same l.initial.registers l.registers
+    × Left l.file (tree_at l.initial.registers) l.first l.end (images_at l.initial.registers) (l.first + 66 * l.i) (images_at l.registers)

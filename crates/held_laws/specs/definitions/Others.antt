@@ -9,7 +9,7 @@ use Rattle.claim_agent.specs.declared.Space.TheVariants.{Memory, Io, Configurati
 use Rattle.claim_agent.specs.definitions.Space.{last_of}
 use Rattle.claim_agent.specs.definitions.Claim.{claims}
 use Rattle.claim_agent.specs.definitions.Claimants.{claimants_in, first_two}
-use Rattle.check_search.specs.declared.Report.{Report}
+use Rattle.check_search.specs.definitions.Report.{Report}
 use Rattle.check_search.specs.definitions.Check.{first_in, first_from, shown, drivers_of, first_of}
 
 -- a held agent: a held node, never the host

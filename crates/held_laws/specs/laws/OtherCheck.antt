@@ -14,8 +14,7 @@ use Rattle.claim_agent.specs.declared.Space.TheVariants.{Memory, Io, Configurati
 use Rattle.claim_agent.specs.definitions.Space.{last_of}
 use Rattle.claim_agent.specs.definitions.Claimants.{claimants, first_two}
 use Rattle.claim_laws.specs.laws.Held.{Asked}
-use Rattle.check_search.specs.declared.Report.{Report}
-use Rattle.check_search.specs.declared.Report.TheVariants.{Pass}
+use Rattle.check_search.specs.definitions.Report.{Report, Pass}
 use Rattle.check_search.specs.definitions.Check.{first_in, first_from, shown, driven_by, drivers_of, at_value, first_of, in_space, bus_report, check}
 use Rattle.check_search.proofs.StretchLaws.{fewer_shown}
 use Rattle.held_laws.specs.definitions.Others.{other_claimants, other_drivers, other_check}

@@ -1,24 +1,25 @@
 -- The calls from C: what each returns, the eight numbers of its answer, and both images at its end.
-use Rattle.std.specs.Prelude.{ℕ, List}
+use Rattle.std.specs.Prelude.{ℕ, List, Result as StdResult}
 use Rattle.rack.specs.definitions.First.{◌when◌, ◌or◌, unless}
 use Rattle.seat.specs.definitions.Grants.{acting}
-use Rattle.arbiter.specs.declared.Arbitration.{Arbitration}
+use Rattle.rack.specs.declared.refusal.Refusal.{Refusal}
+use Rattle.arbiter.specs.declared.Turn.{Turn}
 use Rattle.arbiter.specs.definitions.Arbiter.{arbitrate}
 use Rattle.register_image.specs.definitions.Image.{Images, Result, gives}
 use Rattle.register_image.specs.definitions.Fixed.{lengths_wrong}
 use Rattle.register_image.specs.definitions.Reset.{reset_images}
 use Rattle.file_record.specs.definitions.Events.{event_in, event_bytes}
 use Rattle.file_record.specs.definitions.Load.{rack_alone}
-use Rattle.call_table.specs.declared.RangeReply.{RangeReply}
-use Rattle.call_table.specs.declared.Reply.{Reply}
-use Rattle.call_table.specs.definitions.Call.{run_in, check_in, ends_in}
+use Rattle.rack.specs.declared.Range.{Range}
+use Rattle.event_run.specs.declared.Answer.{Answer}
+use Rattle.call_table.specs.definitions.Call.{Reply, run_in, check_in, ends_in}
 use Rattle.call_numbers.specs.definitions.Called.{Called, refused_call}
 use Rattle.call_numbers.specs.definitions.Numbers.{zeros, code_of, reply_numbers, ends_code, ends_numbers}
 
-abbrev pub replied_call : Result Reply → Called
+abbrev pub replied_call : Result (Reply Answer) → Called
 replied_call r = record { code = code_of r.answer; numbers = reply_numbers r.answer; after = r.after }
 
-abbrev pub ends_call : RangeReply → Images → Called
+abbrev pub ends_call : Reply Range → Images → Called
 ends_call e im = record { code = ends_code e; numbers = ends_numbers e; after = im }
 
 -- rack_run. 01: 'The two C calls take the rack records as bytes: 1 to 10 as for a file .. The event to run is read next, before 11: no
@@ -49,5 +50,5 @@ rack_reset b im =
     (λ n. refused_call n im)
 
 -- rack_grant: a step of the arbiter; the state is two numbers
-abbrev pub rack_grant : ℕ → ℕ → ℕ → ℕ → Arbitration
+abbrev pub rack_grant : ℕ → ℕ → ℕ → ℕ → StdResult Turn Refusal
 rack_grant mask requests high low = arbitrate mask requests (record { high = high; low = low })

@@ -1,24 +1,13 @@
 -- The text of each line, as document 01, 'The program', prints it.
-use Rattle.std.specs.Prelude.{◌≡◌, ℕ, ◌+◌, List, [], ◌∷◌, ◌++◌, length, take}
+use Rattle.std.specs.Prelude.{ℕ, List, [], ◌∷◌, ◌++◌, Ok, Err}
 use Rattle.claim_agent.specs.declared.Space.{Space}
 use Rattle.claim_agent.specs.declared.Space.TheVariants.{Memory, Io, Configuration}
 use Rattle.route_bus.specs.declared.Outcome.{Outcome}
 use Rattle.route_bus.specs.declared.Outcome.TheVariants.{Abort, Done, Target}
 use Rattle.event_run.specs.declared.Ending.{Ending}
 use Rattle.event_run.specs.declared.Ending.TheVariants.{Data, Stored, Owner, Host, Unclaimed, Clash, Special, Silent, Denied}
-use Rattle.check_search.specs.declared.Report.{Report}
-use Rattle.check_search.specs.declared.Report.TheVariants.{Pass, Fault}
-use Rattle.print_line.specs.declared.Line.{Line}
+use Rattle.check_search.specs.definitions.Report.{Report}
 use Rattle.print_line.specs.definitions.Text.{decimal_of, hex_of, codes_of}
-
--- a line's text is its first `len` bytes
-unfoldable pub text_of : Line → List ℕ
-text_of l = take l.len l.bytes
-
--- a text added at the end of a line
-pub record Added (l : Line) (s : List ℕ) (r : Line) : Type 0 where
-  pub next : r.len ≡ l.len + length s
-  pub text : text_of r ≡ text_of l ++ s
 
 -- a text and after it the fields, each after one space (32)
 unfoldable pub spaced : List ℕ → List (List ℕ) → List ℕ
@@ -58,9 +47,9 @@ ending_fields crossings Denied = codes_of "denied" ∷ decimal_of crossings ∷ 
 
 -- 01: '`pass`; `fault` holder, `config`/`memory`/`io`, value (16 hex digits), driver, two agents'
 unfoldable pub report_fields : Report → List (List ℕ)
-report_fields Pass = codes_of "pass" ∷ []
-report_fields (Fault holder space value driver first second) =
-    codes_of "fault" ∷ decimal_of holder ∷ space_word space ∷ hex_of 16 value ∷ decimal_of driver ∷ decimal_of first ∷ decimal_of second ∷ []
+report_fields (Ok _) = codes_of "pass" ∷ []
+report_fields (Err f) =
+    codes_of "fault" ∷ decimal_of f.holder ∷ space_word f.space ∷ hex_of 16 f.value ∷ decimal_of f.driver ∷ decimal_of f.first ∷ decimal_of f.second ∷ []
 
 -- 01: 'A line holds the event number from 1, an ending, and decimal fields', as `1 data 0 00101234` or `2 unclaimed 0 255 abort`
 abbrev pub ending_line : ℕ → ℕ → Ending → List ℕ

@@ -5,20 +5,20 @@ use Rattle.std.proofs.lemmas.Bool.{false≢true, eqb-false}
 use Rattle.rack.specs.laws.Bools.{tested, not_fails, neither}
 use Rattle.rack.specs.definitions.Count.{some, some_from}
 
-from_none : (f : ℕ → Bool) (i left : ℕ) → some_from f i left ≡ false → (k : ℕ) → i ≤ k → k < i + left → f k ≡ false
+pub from_none : (f : ℕ → Bool) (i left : ℕ) → some_from f i left ≡ false → (k : ℕ) → i ≤ k → k < i + left → f k ≡ false
 unfolding some_from
 from_none f i zero e k a b = absurd (omega arith)
 from_none f i (suc left) e k a b =
     tested (eqb k i) (λ q. ap f (eqb-true k i q) ∙ (neither (f i) _ e).0)
     (λ q. from_none f (i + 1) left (neither (f i) _ e).1 k (omega (arith, eqb-false k i q)) (omega arith))
 
-from_all : (f : ℕ → Bool) (i left : ℕ) → ((k : ℕ) → i ≤ k → k < i + left → f k ≡ false) → some_from f i left ≡ false
+pub from_all : (f : ℕ → Bool) (i left : ℕ) → ((k : ℕ) → i ≤ k → k < i + left → f k ≡ false) → some_from f i left ≡ false
 unfolding some_from
 from_all f i zero h = refl
 from_all f i (suc left) h =
     rw (h i (omega arith) (omega arith)) (from_all f (i + 1) left (λ k a b. h k (omega arith) (omega arith)))
 
-from_found : (f : ℕ → Bool) (i left : ℕ) → some_from f i left ≡ true → (k : ℕ) × (k < i + left) × (f k ≡ true)
+pub from_found : (f : ℕ → Bool) (i left : ℕ) → some_from f i left ≡ true → (k : ℕ) × (k < i + left) × (f k ≡ true)
 unfolding some_from
 from_found f i zero e = absurd (false≢true e)
 from_found f i (suc left) e =

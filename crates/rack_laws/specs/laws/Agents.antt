@@ -53,6 +53,13 @@ module _ (t : Tree) (bus : ℕ) where
       (λ q. rw q (omega (arith, nodes_counted (i + 1) left, ap (count_of on_bus_lem) e, rw q at (count_step on_bus_lem i))))
       (λ q. rw q (omega (arith, nodes_counted (i + 1) left, ap (count_of on_bus_lem) e, rw q at (count_step on_bus_lem i))))
 
+  -- how many agents a bus has: its holder, and the nodes on it
+  pub agents_counted : length (agents t bus) ≡ 1 + count_of (λ i. eqb (parent_of t i) bus) t.count
+  unfolding on_bus_lem
+  agents_counted =
+      let e : 0 + t.count ≡ t.count = omega arith in
+      omega (arith, nodes_counted 0 t.count, ap (count_of on_bus_lem) e, count_zero on_bus_lem)
+
   module _ (ok : rack_refusal t ≡ 0) where
     -- the agents of a bus are distinct
     pub agents_distinct : Distinct (agents t bus)
@@ -63,12 +70,9 @@ module _ (t : Tree) (bus : ℕ) where
     nodes_few : length (nodes_on t bus) ≤ 16
     unfolding on_bus_lem
     nodes_few =
-        let e : 0 + t.count ≡ t.count = omega arith in
         omega (
           arith,
-          nodes_counted 0 t.count,
-          ap (count_of on_bus_lem) e,
-          count_zero on_bus_lem,
+          agents_counted,
           count_values 16 on_bus_lem (λ i. (t.node i).device) t.count (λ i h e. omega (arith, device_le t ok i h))
               (λ i j hi hj e g d.
               tested (eqb i j) (λ q. eqb-true i j q)

@@ -23,6 +23,6 @@ pub returns-then-bad_region : goal.returns-then-bad_region
 unfolding node_refusal
 returns-then-bad_region c = search (chain_holds, chain_fails, rules) depth 7
 
-pub returns-else-bad_region : goal.returns-else-bad_region
+pub returns : goal.returns
 unfolding node_refusal
-returns-else-bad_region c = search (chain_fails, chain_ends, rules) depth 7
+returns c = search (chain_fails, chain_ends, rules) depth 8

@@ -1,15 +1,12 @@
-use Rattle.rack_refusals.proofs.Few.{free_yet, taken_none, taken_next, taken_found}
-use borrow.Author.Rules.{rules}
+use Rattle.std.proofs.Common.{rules, refl}
+use borrow.Author.Tests.{tests}
+use Rattle.rack.specs.definitions.Refusal.{same_slot, taken_device}
+use Rattle.rack.specs.definitions.Table.{node_at}
+use Rattle.rack.specs.laws.AnyLaws.{any_some}
 use Rattle.rack_refusals.proofs.taken_device.Goals as goal
 
-pub loop-j-init : goal.loop-j-init
-loop-j-init c = search (free_yet, rules)
-
-pub returns-then-same_slot : goal.returns-then-same_slot
-returns-then-same_slot c = search (taken_found, rules)
-
-pub loop-j-preserved : goal.loop-j-preserved
-loop-j-preserved c = search (taken_next, rules)
-
 pub returns : goal.returns
-returns c = search (taken_none, rules)
+unfolding taken_device
+returns c =
+    any_some (λ j. same_slot (node_at c.args.table.now j) (node_at c.args.table.now c.args.i)) _ c.any.ensures.ran refl
+    (λ x q k. search (rules, tests)) (λ x q k. search (rules, tests))

@@ -1,12 +1,11 @@
-use Rattle.rackrun.proofs.Blank.{zeros_room, zeros_part, parts_blank}
-use Rattle.rackrun.proofs.Loaded.{loaded_rack}
+use Rattle.rackrun.proofs.Blank.{zeros_room, zeros_part}
+use Rattle.rackrun.proofs.Loaded.{rack_read, images_read}
 use Rattle.rackrun.proofs.Parts.{printed_all}
 use borrow.Author.Rules.{rules}
-use Rattle.rack.specs.definitions.Table.{tree_of}
 use Rattle.rackrun.proofs.run.Goals as goal
 
 pub room_of-room-requires : goal.room_of-room-requires
-room_of-room-requires c = search (loaded_rack, rules)
+room_of-room-requires c = rack_read _ _ c.load_file-loaded.ensures
 
 pub slice_bounds-bridges-end : goal.slice_bounds-bridges-end
 slice_bounds-bridges-end c = search (zeros_room, rules)
@@ -22,11 +21,8 @@ slice_bounds-print_loaded-end-2 c = search (zeros_part, rules)
 
 pub print_loaded-requires : goal.print_loaded-requires
 print_loaded-requires c = (
-  search rules,
-  λ z.
-      parts_blank (tree_of c.load_file-l.result.table) c.room_of-room.result.bridges c.room_of-room.result.devices _ _
-      c.bridges_image-bridges.ensures c.devices_image-devices.ensures c.room_of-room.ensures.0 c.room_of-room.ensures.1
-      c.room_of-room.ensures.2 z,
+  c.load_file-loaded.ensures,
+  images_read _ _ _ _ _ c.bridges_image-bridges.ensures c.devices_image-devices.ensures c.room_of-room.ensures.fits c.room_of-room.ensures.exact,
 )
 
 pub returns : goal.returns

@@ -1,9 +1,6 @@
 -- What is read from standard input.
-use Rattle.std.specs.Prelude.{◌≡◌, ℕ, ◌≤◌, List, length, take}
-use Rattle.rackrun.specs.declared.Input.{Input}
-use Rattle.rackrun.specs.declared.Input.TheVariants.{Read, Failed}
+use Rattle.std.specs.Prelude.{◌≡◌, ℕ, ◌≤◌, List, length, take, Result, IfOk}
 
 -- the bytes that were read stand within the buffer
-abbrev pub Within : Input → List ℕ → Type 0
-Within (Read n) buffer = (n ≤ length buffer) × (n ≡ length (take n buffer))
-Within Failed buffer = Unit {0}
+abbrev pub Within : {E : Type 0} → Result ℕ E → List ℕ → Type 0
+Within r buffer = IfOk r (λ n. (n ≤ length buffer) × (n ≡ length (take n buffer)))

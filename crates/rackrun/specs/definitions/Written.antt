@@ -1,6 +1,6 @@
 -- What is written of a file's output. No contract can say what the system writes; these say which bytes `write_next` may be given, and how
 -- many it has been given.
-use Rattle.std.specs.Prelude.{◌≡◌, ℕ, ◌+◌, ◌*◌, ◌≤◌, ◌<◌, List, length, take, drop}
+use Rattle.std.specs.Prelude.{◌≡◌, ℕ, ◌+◌, ◌*◌, ◌≤◌, ◌<◌, List, length, take, drop, Result, IfOk}
 use Rattle.rack.specs.definitions.Tree.{Tree}
 use Rattle.seat.specs.definitions.Grants.{Grants}
 use Rattle.register_image.specs.definitions.Image.{Images}
@@ -9,8 +9,6 @@ use Rattle.print_output.specs.declared.Rest.{Rest}
 use Rattle.print_output.specs.definitions.Rest.{output_from, end_from}
 use Rattle.print_output.specs.definitions.Piece.{Ready, to_go}
 use Rattle.rackrun.specs.declared.Progress.{Progress}
-use Rattle.rackrun.specs.declared.Printed.{Printed}
-use Rattle.rackrun.specs.declared.Printed.TheVariants.{UpTo, Failed}
 
 -- these bytes stand in a text after its first `done`
 abbrev pub IsNext : List ℕ → ℕ → List ℕ → Type 0
@@ -25,9 +23,8 @@ pub record Stands (b : List ℕ) (t : Tree) (g : Grants) (p : Progress) (im : Im
   pub fits : p.done + 65536 * to_go b p.rest ≤ 4294967296
 
 -- written up to here
-abbrev pub Writes : Printed → ℕ → Rest → Type 0
-Writes (UpTo p) done rest = p ≡ record { done = done; rest = rest }
-Writes Failed done rest = Unit {0}
+abbrev pub Writes : {E : Type 0} → Result Progress E → ℕ → Rest → Type 0
+Writes r done rest = IfOk r (λ p. p ≡ record { done = done; rest = rest })
 
 -- a part later it stands so again, with less left, and ends where it did
 pub record Later (b : List ℕ) (t : Tree) (g : Grants) (p : Progress) (im : Images) (q : Progress) (after : Images) : Type 0 where
@@ -35,11 +32,9 @@ pub record Later (b : List ℕ) (t : Tree) (g : Grants) (p : Progress) (im : Ima
   pub less : to_go b q.rest < to_go b p.rest
   pub same : end_from t g b p.rest im ≡ end_from t g b q.rest after
 
-abbrev pub WritesPart : List ℕ → Tree → Grants → Progress → Images → Printed → Images → Type 0
-WritesPart b t g p im (UpTo q) after = Later b t g p im q after
-WritesPart b t g p im Failed after = Unit {0}
+abbrev pub WritesPart : {E : Type 0} → List ℕ → Tree → Grants → Progress → Images → Result Progress E → Images → Type 0
+WritesPart b t g p im r after = IfOk r (λ q. Later b t g p im q after)
 
 -- a whole text is written, each of its bytes once
-abbrev pub WritesAll : Printed → List ℕ → Type 0
-WritesAll (UpTo p) text = p.done ≡ length text
-WritesAll Failed text = Unit {0}
+abbrev pub WritesAll : {E : Type 0} → Result Progress E → List ℕ → Type 0
+WritesAll r text = IfOk r (λ p. p.done ≡ length text)

@@ -1,5 +1,5 @@
 -- The two images, an answer with both, the part of one node in them, and an image with one part changed.
-use Rattle.std.specs.Prelude.{ℕ, ◌+◌, ◌*◌, ◌/◌, cond, List, [], ◌++◌, ltb, length, take, drop}
+use Rattle.std.specs.Prelude.{ℕ, ◌+◌, ◌*◌, ◌/◌, cond, List, [], ◌++◌, ltb, length, take, drop, Option, Some, None}
 use Rattle.rack.specs.declared.Kind.{Kind}
 use Rattle.rack.specs.definitions.Node.{is_bridge}
 use Rattle.rack.specs.definitions.Tree.{Tree}
@@ -47,6 +47,13 @@ on_part image place f =
 -- 01: 'The register view hands back that part of whichever of the two lent images holds the node'; of a missing node an empty part
 unfoldable pub view : Tree → Images → ℕ → List ℕ
 view t im i = cond (ltb i t.count) (node_part (image_of im (t.node i).kind) (t.place i)) []
+
+-- what is found in the part at a place, and in the part of a node, if there is one
+unfoldable pub in_part : {A : Type 0} → List ℕ → ℕ → (List ℕ → A) → Option A
+in_part image place f = cond (ltb place (length image / 64)) (Some (f (node_part image place))) None
+
+unfoldable pub in_node : {A : Type 0} → Tree → Images → ℕ → (List ℕ → A) → Option A
+in_node t im i f = cond (ltb i t.count) (in_part (image_of im (t.node i).kind) (t.place i) f) None
 
 -- both images with the part of one node changed; those of a missing node stay
 unfoldable pub on_node : Tree → Images → ℕ → (List ℕ → List ℕ) → Images

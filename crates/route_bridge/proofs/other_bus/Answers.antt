@@ -8,4 +8,4 @@ returns-then-g-bus c = simp (ne_eqb _ _ c.if-g-bus.true)
 
 pub returns : goal.returns
 unfolding other_bus
-returns c = simp (eq-eqb _ _ c.if-g-bus.false, c.node_at-n.ensures)
+returns c = simp (eq-eqb _ _ c.if-g-bus.false, c.node_at.ensures)

@@ -5,5 +5,5 @@ use Rattle.bus_reset.proofs.agreement.node_disagrees.Goals as goal
 pub returns-then-is_held : goal.returns-then-is_held
 returns-then-is_held c = search (held_changed, rules)
 
-pub returns : goal.returns
-returns c = search (not_held, rules)
+pub returns-else-is_held : goal.returns-else-is_held
+returns-else-is_held c = search (not_held, rules)

@@ -1,16 +1,9 @@
-use mathlib.Core.Path.{◌≡◌}
-use Prim.Native.Nat.{◌-◌}
-use lib.ListN.{length}
-use Rattle.rack.specs.definitions.Table.{tree_of}
-use Rattle.register_image.specs.definitions.Image.{images}
+use Rattle.register_image.specs.definitions.LentMut.{tree_at, images_at, Same}
 use Rattle.register_image.specs.laws.ResetTurns.{ResetYet}
 use Rattle.bus_reset.specs.definitions.Held.{is_below}
 use Rattle.bus_reset.proofs.store.reset_below.Given as goal
 
 abbrev pub invariant-loop-i : goal.invariant-loop-i
 invariant-loop-i l =
-    (length l.bridges ≡ length l.initial.bridges) × (length l.devices ≡ length l.initial.devices)
-    × ResetYet (tree_of l.table) (is_below (tree_of l.table) l.b) (images l.initial.bridges l.initial.devices) l.count (images l.bridges l.devices) l.i
-
-abbrev pub decreases-loop-i : goal.decreases-loop-i
-decreases-loop-i l = l.count - l.i
+    Same l.initial.registers l.registers
+    × ResetYet (tree_at l.initial.registers) (is_below (tree_at l.initial.registers) l.b) (images_at l.initial.registers) l.count (images_at l.registers) l.i

@@ -1,6 +1,5 @@
 use Rattle.call_table.proofs.Calling.{missing_or}
-use borrow.Author.Rules.{rules}
 use Rattle.call_table.proofs.refusal.window_refusal.Goals as goal
 
 pub returns : goal.returns
-returns c = search (missing_or, rules)
+returns c = missing_or _ _ c.count_of-count.ensures c.field_refusal.ensures

@@ -1,4 +1,3 @@
-use Prim.Native.Nat.{◌-◌}
 use Rattle.rack.specs.definitions.Table.{tree_of}
 use Rattle.register_image.specs.definitions.Image.{images}
 use Rattle.check_search.specs.definitions.Check.{driven_by}
@@ -7,7 +6,4 @@ use Rattle.check_search.proofs.drivers.nodes_drive.Given as goal
 
 abbrev pub invariant-loop-i : goal.invariant-loop-i
 invariant-loop-i l =
-    NodesYet (tree_of l.table) l.bus (driven_by (tree_of l.table) (images l.bridges l.devices) l.bus l.space l.a) l.count l.i
-
-abbrev pub decreases-loop-i : goal.decreases-loop-i
-decreases-loop-i l = l.count - l.i
+    NodesYet (tree_of l.registers.table.now) l.bus (driven_by (tree_of l.registers.table.now) (images l.registers.bridges.now l.registers.devices.now) l.bus l.space l.a) l.count l.i

@@ -1,35 +1,45 @@
 use mathlib.Core.Path.{refl}
 use native.Mathlib.Omega.{arith}
 use borrow.Author.Rules.{rules}
-use Rattle.rack.specs.definitions.Table.{tree_of}
-use Rattle.register_image.specs.definitions.Image.{images}
-use Rattle.check_sweep.proofs.Seen.{seen_none, seen_more, seen_less, seen_few, seen_found, seen_on, seen_end}
+use Rattle.std.proofs.lemmas.Result.{err_from_is_err_and}
+use Rattle.check_sweep.proofs.Seen.{counts_one, seen_none, seen_more, seen_less, seen_few, seen_found, seen_on, seen_end}
 use Rattle.check_sweep.proofs.sweep.sweep.Goals as goal
 
-pub loop-g-init : goal.loop-g-init
-loop-g-init c = (search rules, refl)
+pub loop-agent-init : goal.loop-agent-init
+loop-agent-init c = (search rules, refl)
 
-pub loop-i-init : goal.loop-i-init
-loop-i-init c = search (seen_none, rules)
+pub loop-agent-2-init : goal.loop-agent-2-init
+loop-agent-2-init c = search (seen_none, rules)
 
-pub loop-i-preserved : goal.loop-i-preserved
-loop-i-preserved c = search (seen_more, rules)
+pub overflow_add-claiming : goal.overflow_add-claiming
+overflow_add-claiming c = omega (arith, (counts_one c.verdict-v.result.claims).1)
 
-pub found_at-r-requires : goal.found_at-r-requires
-found_at-r-requires c = search (seen_few, rules)
+pub loop-agent-2-preserved : goal.loop-agent-2-preserved
+loop-agent-2-preserved c =
+    seen_more _ _ _ _ _ _ refl c.loop-agent-2-test.true c.loop-agent-2.invariant c.verdict-v.ensures.0 c.verdict-v.ensures.1 c.from-claiming.ensures
 
-pub returns-then-is_fault : goal.returns-then-is_fault
-returns-then-is_fault c =
-    let a = c.args in
-    let inv = c.loop-g.invariant in
-    seen_found (tree_of a.table.now) (images a.bridges.now a.devices.now) a.bus a.space c.loop-g.a a.last
-    inv.0 inv.1 c.found_at-r.ensures c.is_fault.ensures c.if-is_fault.true
+pub found_at-requires : goal.found_at-requires
+found_at-requires c = seen_few _ _ _ _ _ _ _ _ c.requires.2 c.requires.0 c.loop-agent-2-test.false c.loop-agent-2.invariant
+
+pub returns-in_err-found_at : goal.returns-in_err-found_at
+returns-in_err-found_at c =
+    let p = err_from_is_err_and c.from_residual.result c.from_residual.ensures.1 in
+    let inv = c.loop-agent.invariant in
+    rw (p.1, p.2) (seen_found _ _ _ _ _ _ inv.0 inv.1 c.found_at.ensures c.in_err-found_at.was)
 
 pub returns-then-last-until : goal.returns-then-last-until
-returns-then-last-until c = search (seen_end, rules)
+returns-then-last-until c =
+    let inv = c.loop-agent.invariant in
+    seen_end _ _ _ _ _ _ _ _ c.requires.2 c.requires.0 c.loop-agent-2-test.false c.loop-agent-2.invariant inv.0 inv.1
+    c.found_at.ensures c.in_ok-found_at.was c.if-last-until.true
 
-pub loop-g-smaller : goal.loop-g-smaller
-loop-g-smaller c = search (seen_less, rules)
+pub loop-agent-smaller : goal.loop-agent-smaller
+loop-agent-smaller c = search (seen_less, rules)
 
-pub loop-g-preserved : goal.loop-g-preserved
-loop-g-preserved c = (omega arith, search (seen_on, rules))
+pub loop-agent-preserved : goal.loop-agent-preserved
+loop-agent-preserved c =
+    let inv = c.loop-agent.invariant in (
+      omega arith,
+      seen_on _ _ _ _ _ _ _ _ c.requires.2 c.requires.0 c.loop-agent-2-test.false c.loop-agent-2.invariant inv.0 inv.1
+          c.found_at.ensures c.in_ok-found_at.was,
+    )

@@ -1,14 +1,20 @@
+use mathlib.Core.Path.{◌≡◌}
+use mathlib.Core.Bool.{Bool, ◌&&◌}
+use Prim.Native.Nat.{ℕ}
+use denote.Enum.Bare.{sameb}
+use Rattle.rack.specs.declared.Range.{Range}
+use Rattle.claim_window.specs.definitions.Range.{within}
+use Rattle.claim_agent.specs.contracts.Space.{the_type}
+use Rattle.claim_agent.specs.declared.Space.{Space}
+use Rattle.claim_agent.specs.declared.Space.TheVariants.{Memory, Io, Configuration}
 use Rattle.claim_agent.specs.definitions.Claim.{host_claims}
 use Rattle.claim_agent.proofs.answer.host_claims.Goals as goal
 
-pub returns-in-Memory : goal.returns-in-Memory
+in_memory : (h : Range) (space : Space) (a : ℕ) {e w : Bool} → e ≡ sameb the_type space Memory → w ≡ within h a → (e && w) ≡ host_claims h space a
 unfolding host_claims
-returns-in-Memory c = simp (c.in-Memory.is, c.within_range.ensures)
+in_memory h Memory a ee ew = rw (ee, ew)
+in_memory h Io a ee ew = rw ee
+in_memory h Configuration a ee ew = rw ee
 
-pub returns-in-Io : goal.returns-in-Io
-unfolding host_claims
-returns-in-Io c = simp c.in-Io.is
-
-pub returns-in-Configuration : goal.returns-in-Configuration
-unfolding host_claims
-returns-in-Configuration c = simp c.in-Configuration.is
+pub returns : goal.returns
+returns c = in_memory _ _ _ c.eq.ensures c.within_range.ensures

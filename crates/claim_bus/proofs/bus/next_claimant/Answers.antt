@@ -1,21 +1,12 @@
-use borrow.Author.Rules.{rules}
-use mathlib.Core.Path.{refl}
-use Rattle.claim_bus.proofs.OnBus.{claimant_none, claimant_off, claimant_not, claimant_found}
+use Rattle.std.proofs.Common.{rules}
+use borrow.Author.Tests.{tests}
+use Rattle.rack.specs.laws.AnyLaws.{find_first}
+use Rattle.register_image.specs.definitions.Lent.{tree_in, images_in}
+use Rattle.claim_agent.specs.definitions.Claimants.{counted_on_bus}
 use Rattle.claim_bus.proofs.bus.next_claimant.Goals as goal
 
-pub loop-i-init : goal.loop-i-init
-loop-i-init c = refl
-
-pub returns-then-counts : goal.returns-then-counts
-returns-then-counts c = search (claimant_found, rules)
-
-pub loop-i-preserved-then-parent_at-bus : goal.loop-i-preserved-then-parent_at-bus
-loop-i-preserved-then-parent_at-bus c =
-    claimant_not _ _ _ _ _ _ _ c.loop-i.invariant c.loop-i-test.true
-    c.parent_at.ensures c.if-parent_at-bus.true c.counts.ensures c.if-counts.false
-
-pub loop-i-preserved : goal.loop-i-preserved
-loop-i-preserved c = search (claimant_off, rules)
-
 pub returns : goal.returns
-returns c = search (claimant_none, rules)
+returns c =
+    rw c.count_of.ensures at
+    (find_first (counted_on_bus (tree_in c.args.registers.now) (images_in c.args.registers.now) c.args.t.space c.args.t.bus c.args.t.driver c.args.t.address)
+    c.args.from c.count_of.result _ c.find.ensures.ran (search rules) (λ x q k. search (rules, tests)) (λ x q k. search (rules, tests)))

@@ -3,29 +3,29 @@ use Rattle.event_run.proofs.Answering.{reaches}
 use borrow.Author.Rules.{rules}
 use Rattle.event_run.proofs.ended.ended_at.Goals as goal
 
-pub returns-in-Node : goal.returns-in-Node
-returns-in-Node c = search (reaches, rules)
+pub returns-in-Node-clause-leaves : goal.returns-in-Node-clause-leaves
+returns-in-Node-clause-leaves c = search (reaches, rules)
 
-pub returns-in-Owner : goal.returns-in-Owner
+pub returns-in-Owner-clause-leaves : goal.returns-in-Owner-clause-leaves
 unfolding ended_at
-returns-in-Owner c = rw c.in-Owner.is
+returns-in-Owner-clause-leaves c = rw c.in-Owner.is
 
-pub returns-in-Host : goal.returns-in-Host
+pub returns-in-Host-clause-leaves : goal.returns-in-Host-clause-leaves
 unfolding ended_at
-returns-in-Host c = rw c.in-Host.is
+returns-in-Host-clause-leaves c = rw c.in-Host.is
 
-pub returns-in-Unclaimed : goal.returns-in-Unclaimed
+pub returns-in-Unclaimed-clause-leaves : goal.returns-in-Unclaimed-clause-leaves
 unfolding ended_at
-returns-in-Unclaimed c = rw c.in-Unclaimed.is
+returns-in-Unclaimed-clause-leaves c = rw c.in-Unclaimed.is
 
-pub returns-in-Clash : goal.returns-in-Clash
+pub returns-in-Clash-clause-leaves : goal.returns-in-Clash-clause-leaves
 unfolding ended_at
-returns-in-Clash c = rw c.in-Clash.is
+returns-in-Clash-clause-leaves c = rw c.in-Clash.is
 
-pub returns-in-Special : goal.returns-in-Special
+pub returns-in-Special-clause-leaves : goal.returns-in-Special-clause-leaves
 unfolding ended_at
-returns-in-Special c = rw c.in-Special.is
+returns-in-Special-clause-leaves c = rw c.in-Special.is
 
-pub returns-in-Silent : goal.returns-in-Silent
+pub returns-in-Silent-clause-leaves : goal.returns-in-Silent-clause-leaves
 unfolding ended_at
-returns-in-Silent c = rw c.in-Silent.is
+returns-in-Silent-clause-leaves c = rw c.in-Silent.is

@@ -1,16 +1,15 @@
-use Rattle.rack.specs.laws.FirstLaws.{chain_holds, chain_fails, chain_ends}
-use Rattle.file_record.specs.definitions.Events.{event_bytes}
-use borrow.Author.Rules.{rules}
+use Rattle.file_record.proofs.Records.{event_none, event_long, event_exact}
 use Rattle.file_record.proofs.events.event_bytes.Goals as goal
 
-pub returns-then-no_event : goal.returns-then-no_event
-unfolding event_bytes
-returns-then-no_event c = search (chain_holds, rules)
+pub returns-then-ne : goal.returns-then-ne
+returns-then-ne c = event_none c.args.bytes.now c.class_in.ensures c.ne.ensures c.if-ne.true
 
-pub returns-then-other_length : goal.returns-then-other_length
-unfolding event_bytes
-returns-then-other_length c = search (chain_holds, chain_fails, rules)
+pub returns-then-bytes-size_of : goal.returns-then-bytes-size_of
+returns-then-bytes-size_of c =
+    event_long c.args.bytes.now c.class_in.ensures c.ne.ensures c.if-ne.false c.byte_at.ensures c.size_of.ensures.0
+    c.if-bytes-size_of.true
 
 pub returns : goal.returns
-unfolding event_bytes
-returns c = search (chain_fails, chain_ends, rules)
+returns c =
+    event_exact c.args.bytes.now c.class_in.ensures c.ne.ensures c.if-ne.false c.byte_at.ensures c.size_of.ensures.0
+    c.if-bytes-size_of.false

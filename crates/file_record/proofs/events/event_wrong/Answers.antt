@@ -1,3 +1,4 @@
+use Rattle.std.proofs.Math.Logic.{inl, inr}
 use Rattle.file_record.specs.definitions.Events.{event_wrong}
 use Rattle.file_record.proofs.events.event_wrong.Goals as goal
 
@@ -11,16 +12,9 @@ returns-in-Read c = rw c.in-Read.is c.register_wrong.ensures
 
 pub returns-in-Memory : goal.returns-in-Memory
 unfolding event_wrong
-returns-in-Memory c = rw c.in-Memory.is c.access_wrong.ensures
-
-pub returns-in-Io : goal.returns-in-Io
-unfolding event_wrong
-returns-in-Io c = rw c.in-Io.is c.access_wrong-in-Io.ensures
+returns-in-Memory c =
+    elim c.in-Memory.is [ inl w ↦ rw w.1 c.access_wrong.ensures | inr w ↦ rw w.1 c.access_wrong.ensures ]
 
 pub returns-in-Check : goal.returns-in-Check
 unfolding event_wrong
-returns-in-Check c = rw c.in-Check.is
-
-pub returns-in-Seat : goal.returns-in-Seat
-unfolding event_wrong
-returns-in-Seat c = rw c.in-Seat.is
+returns-in-Check c = elim c.in-Check.is [ inl w ↦ rw w | inr w ↦ rw w.1 ]

@@ -1,4 +1,3 @@
-use Prim.Native.Nat.{◌-◌}
 use Rattle.rack.specs.definitions.Table.{tree_of}
 use Rattle.register_image.specs.definitions.Image.{images}
 use Rattle.file_save.specs.definitions.Saved.{register_bytes, registers_of}
@@ -7,7 +6,4 @@ use Rattle.file_save.proofs.save.put_changed.Given as goal
 
 abbrev pub invariant-loop-i : goal.invariant-loop-i
 invariant-loop-i l =
-    Putting (register_bytes (tree_of l.table) (images l.bridges l.devices)) l.count (registers_of (tree_of l.table) (images l.bridges l.devices)) l.at l.initial.out l.i l.next l.out
-
-abbrev pub decreases-loop-i : goal.decreases-loop-i
-decreases-loop-i l = l.count - l.i
+    Putting (register_bytes (tree_of l.registers.table.now) (images l.registers.bridges.now l.registers.devices.now)) l.count (registers_of (tree_of l.registers.table.now) (images l.registers.bridges.now l.registers.devices.now)) l.at l.initial.out l.i l.next l.out

@@ -1,10 +1,7 @@
 use borrow.Author.Rules.{rules}
-use Rattle.file_save.proofs.Puts.{puts_all, puts_room, puts_next, puts_end, from_zero}
+use Rattle.file_save.proofs.Puts.{puts_room, puts_next, puts_end}
 use Rattle.file_save.proofs.Records.{node_same}
 use Rattle.file_save.proofs.save.put_nodes.Goals as goal
-
-pub loop-node-init : goal.loop-node-init
-loop-node-init c = search (puts_all, from_zero, rules)
 
 pub put_node-next-requires : goal.put_node-next-requires
 put_node-next-requires c = search (puts_room, node_same, rules)

@@ -1,9 +1,6 @@
 use borrow.Author.Rules.{rules}
-use Rattle.file_save.proofs.Puts.{puts_all, puts_room, puts_next, puts_end}
+use Rattle.file_save.proofs.Puts.{puts_room, puts_next, puts_end}
 use Rattle.file_save.proofs.save.put_seats.Goals as goal
-
-pub loop-seat-init : goal.loop-seat-init
-loop-seat-init c = search (puts_all, rules)
 
 pub put_seat_nodes-next-requires : goal.put_seat_nodes-next-requires
 put_seat_nodes-next-requires c = search (puts_room, rules)

@@ -2,16 +2,22 @@ use Rattle.muzgante.proofs.Calling.{reset_without_rack, reset_of_lengths, reset_
 use borrow.Author.Rules.{rules}
 use Rattle.muzgante.proofs.screen.rack_reset.Goals as goal
 
-pub returns-then-l-ne0 : goal.returns-then-l-ne0
-returns-then-l-ne0 c = search (reset_without_rack, rules)
+pub returns-in-Err : goal.returns-in-Err
+returns-in-Err c = reset_without_rack _ c.in-Err.ensures c.from.ensures _ _
 
 pub returns-then-lengths_wrong : goal.returns-then-lengths_wrong
-returns-then-lengths_wrong c = search (reset_of_lengths, rules)
+returns-then-lengths_wrong c =
+    let w = rw (c.lent.ensures.table, c.lent.ensures.bridges, c.lent.ensures.devices) at c.lengths_wrong.ensures in
+    rw c.from-then-lengths_wrong.ensures (reset_of_lengths _ c.in-Ok.ensures _ _ w c.if-lengths_wrong.true)
 
 pub returns-then-is_wrong : goal.returns-then-is_wrong
 returns-then-is_wrong c =
-    reset_of_grants _ _ _ c.load_alone-l.ensures c.if-l-ne0.false c.lengths_wrong.ensures
-    c.if-lengths_wrong.false c.is_wrong.ensures c.if-is_wrong.true
+    let w = rw (c.lent.ensures.table, c.lent.ensures.bridges, c.lent.ensures.devices) at c.lengths_wrong.ensures in
+    rw c.from-then-is_wrong.ensures
+    (reset_of_grants _ c.in-Ok.ensures _ _ w c.if-lengths_wrong.false c.is_wrong.ensures c.if-is_wrong.true)
 
 pub returns : goal.returns
-returns c = search (reset_made, rules)
+returns c =
+    let w = rw (c.lent.ensures.table, c.lent.ensures.bridges, c.lent.ensures.devices) at c.lengths_wrong.ensures in
+    let h = reset_made _ c.in-Ok.ensures _ _ w c.if-lengths_wrong.false c.is_wrong.ensures c.if-is_wrong.false c.reset_images.ensures.leaves in
+    search rules

@@ -1,9 +1,8 @@
 use Rattle.muzgante.proofs.Calling.{window_without_rack, window_told}
-use borrow.Author.Rules.{rules}
 use Rattle.muzgante.proofs.screen.rack_window.Goals as goal
 
-pub returns-then-l-ne0 : goal.returns-then-l-ne0
-returns-then-l-ne0 c = search (window_without_rack, rules)
+pub returns-in-Err : goal.returns-in-Err
+returns-in-Err c = window_without_rack _ c.in-Err.ensures c.from.ensures _ _ _ _ c.refuse.ensures.0 c.refuse.ensures.1
 
 pub returns : goal.returns
-returns c = search (window_told, rules)
+returns c = window_told _ c.in-Ok.ensures _ _ _ _ c.ends_on-e.ensures c.put_ends.ensures.0 c.put_ends.ensures.1

@@ -1,4 +1,4 @@
-use native.Mathlib.Omega.{arith}
+use Rattle.std.proofs.Common.{arith, length-append}
 use Rattle.print_line.proofs.Digits.{decimal_one, decimal_more, decimal_once, decimal_longer}
 use Rattle.print_line.proofs.Line.+decimal.Goals as goal
 
@@ -12,7 +12,7 @@ pub decimal-l-requires : goal.decimal-l-requires
 decimal-l-requires t c = (omega arith, omega (arith, decimal_longer _ c.if-x-lt10.false))
 
 pub byte-requires-2 : goal.byte-requires-2
-byte-requires-2 t c = omega (arith, c.decimal-l.ensures.next, decimal_longer _ c.if-x-lt10.false)
+byte-requires-2 t c = rw (c.decimal-l.ensures, length-append) (omega (arith, decimal_longer _ c.if-x-lt10.false))
 
 pub returns : goal.returns
 returns t c = decimal_more _ _ c.if-x-lt10.false c.decimal-l.ensures c.byte-2.ensures

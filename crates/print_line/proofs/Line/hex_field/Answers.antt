@@ -1,6 +1,8 @@
-use Rattle.print_line.specs.laws.Added.{added_both}
-use native.Mathlib.Omega.{arith}
+use Rattle.std.proofs.Common.{refl, append_assoc, arith, length-append}
+use Rattle.print_line.proofs.Digits.{hex_length}
 use Rattle.print_line.proofs.Line.hex_field.Goals as goal
 
 pub returns : goal.returns
-returns c = (added_both c.byte.ensures c.hex.ensures.0, omega (arith, c.hex.ensures.1, c.byte.ensures.next))
+returns c =
+    rw (c.hex.ensures, c.byte.ensures, append_assoc, length-append)
+    (refl, omega (arith, hex_length c.args.k c.args.x))

@@ -7,12 +7,12 @@ fill-f-requires c = (search (ready_rack, rules), search (ready_long, rules), sea
 
 pub returns-in-Refused : goal.returns-in-Refused
 returns-in-Refused c =
-    record { text = search (text_refused, rules); puts = search (puts_refused, rules); onward = search (onward_refused, rules) }
+    record { text = search (text_refused, rules); puts = search (puts_refused, rules); onward = search (onward_refused, rules); same = search rules }
 
 pub returns-in-Events : goal.returns-in-Events
 returns-in-Events c =
-    record { text = search (text_events, rules); puts = search (puts_events, rules); onward = search (onward_events, rules) }
+    record { text = search (text_events, rules); puts = search (puts_events, rules); onward = search (onward_events, rules); same = search rules }
 
 pub returns-in-Nothing : goal.returns-in-Nothing
 returns-in-Nothing c =
-    record { text = search (text_nothing, rules); puts = search (puts_nothing, rules); onward = search (onward_nothing, rules) }
+    record { text = search (text_nothing, rules); puts = search (puts_nothing, rules); onward = search (onward_nothing, rules); same = search rules }

@@ -1,10 +1,6 @@
-use native.Mathlib.Omega.{arith}
 use Rattle.rack.proofs.Grown.{new_is, new_root}
 use borrow.Author.Rules.{rules}
 use Rattle.rack.proofs.grow.new_depth.Goals as goal
-
-pub overflow_add-result : goal.overflow_add-result
-overflow_add-result c = omega arith
 
 pub returns-then-parent-count_of : goal.returns-then-parent-count_of
 returns-then-parent-count_of c = search (new_is, rules)

@@ -3,4 +3,4 @@ use Rattle.rack.proofs.table.device_at.Goals as goal
 
 pub returns : goal.returns
 unfolding node_at
-returns c = simp c.low_at.ensures
+returns c = rw (c.to_le_bytes.ensures, c.low_at.ensures)

@@ -5,5 +5,5 @@ use Rattle.rack.proofs.table.own_region.Goals as goal
 pub returns-then-is_bridge : goal.returns-then-is_bridge
 returns-then-is_bridge c = search (own_none, rules)
 
-pub returns : goal.returns
-returns c = search (own_is, rules)
+pub returns-else-is_bridge : goal.returns-else-is_bridge
+returns-else-is_bridge c = search (own_is, rules)

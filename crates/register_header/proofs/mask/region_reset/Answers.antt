@@ -1,18 +1,20 @@
-use borrow.Author.Tests.{ne_eqb}
-use borrow.Author.Rules.{rules}
+use Rattle.std.proofs.Common.{arith}
+use Rattle.std.proofs.lemmas.Bool.Decides.{nat_tests}
 use Rattle.register_header.specs.definitions.Mask.{region_reset}
-use Rattle.register_header.proofs.Masks.{reset_io, reset_wide, reset_plain}
 use Rattle.register_header.proofs.mask.region_reset.Goals as goal
 
-pub returns-then-kind-eq1 : goal.returns-then-kind-eq1
-returns-then-kind-eq1 c = search (reset_io, rules)
-
-pub returns-then-kind-eq3 : goal.returns-then-kind-eq3
-returns-then-kind-eq3 c = search (reset_wide, rules)
-
-pub returns-then-k-eq0 : goal.returns-then-k-eq0
-returns-then-k-eq0 c = search (reset_plain, rules)
-
-pub returns : goal.returns
+pub returns-then-k-gt0 : goal.returns-then-k-gt0
 unfolding region_reset
-returns c = simp (ne_eqb _ _ c.if-k-eq0.false)
+returns-then-k-gt0 c = grind (arith, nat_tests)
+
+pub returns-in-1 : goal.returns-in-1
+unfolding region_reset
+returns-in-1 c = grind (arith, nat_tests)
+
+pub returns-in-3 : goal.returns-in-3
+unfolding region_reset
+returns-in-3 c = grind (arith, nat_tests)
+
+pub returns-in_default : goal.returns-in_default
+unfolding region_reset
+returns-in_default c = grind (arith, nat_tests)

@@ -1,17 +1,8 @@
-use borrow.Author.Rules.{rules}
-use mathlib.Core.Path.{refl}
-use Rattle.rack.specs.laws.CountLaws.{none_yet, some_none}
-use Rattle.register_image.proofs.Held.{changed_next, changed_found}
+use Rattle.std.proofs.Common.{rules, refl}
+use borrow.Author.Tests.{tests}
+use Rattle.rack.specs.laws.AnyLaws.{any_some}
+use Rattle.register_image.specs.definitions.Reset.{byte_changed}
 use Rattle.register_image.proofs.reset.is_changed.Goals as goal
 
-pub loop-at-init : goal.loop-at-init
-loop-at-init c = search (none_yet, rules)
-
-pub returns-then-value-reset_byte : goal.returns-then-value-reset_byte
-returns-then-value-reset_byte c = search (changed_found, rules)
-
-pub loop-at-preserved : goal.loop-at-preserved
-loop-at-preserved c = search (changed_next, rules)
-
 pub returns : goal.returns
-returns c = search (some_none, refl, rules)
+returns c = any_some (byte_changed c.args.n c.args.part.now) 64 c.any.ensures.ran refl (λ x q k. search (rules, tests)) (λ x q k. search (rules, tests))

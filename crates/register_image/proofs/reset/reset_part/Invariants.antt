@@ -8,6 +8,3 @@ use Rattle.register_image.proofs.reset.reset_part.Given as goal
 abbrev pub invariant-loop-at : goal.invariant-loop-at
 invariant-loop-at l =
     (length l.part ≡ 64) × (l.at ≤ 64) × (take l.at l.part ++ reset_from l.n l.at (64 - l.at) ≡ reset_from l.n 0 64)
-
-abbrev pub decreases-loop-at : goal.decreases-loop-at
-decreases-loop-at l = 64 - l.at

@@ -11,8 +11,8 @@ bridge_step-returns t c = search (step_across, rules)
 pub bus_step-returns-in-Ends : goal.bus_step-returns-in-Ends
 bus_step-returns-in-Ends t c = search (step_ends, rules)
 
-pub bus_step-returns-then-left-eq0 : goal.bus_step-returns-then-left-eq0
-bus_step-returns-then-left-eq0 t c = search (step_spent, rules)
+pub bus_step-returns-in-Crosses-clause-leaves : goal.bus_step-returns-in-Crosses-clause-leaves
+bus_step-returns-in-Crosses-clause-leaves t c = search (step_spent, rules)
 
-pub bus_step-returns-else-left-eq0 : goal.bus_step-returns-else-left-eq0
-bus_step-returns-else-left-eq0 t c = search (step_on, rules)
+pub bus_step-returns-in-Crosses-2-clause-leaves : goal.bus_step-returns-in-Crosses-2-clause-leaves
+bus_step-returns-in-Crosses-2-clause-leaves t c = search (step_on, rules)

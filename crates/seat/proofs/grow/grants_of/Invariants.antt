@@ -1,11 +1,8 @@
 use mathlib.Core.Path.{◌≡◌}
-use Prim.Native.Nat.{◌≤◌, ◌-◌}
+use Prim.Native.Nat.{◌≤◌}
 use Rattle.seat.specs.definitions.Table.{grants_of}
 use Rattle.seat.proofs.Filled.{grants_to}
 use Rattle.seat.proofs.grow.grants_of.Given as goal
 
 abbrev pub invariant-loop-at : goal.invariant-loop-at
 invariant-loop-at l = (l.at ≤ 1440) × (grants_of l.table ≡ grants_to l.rack l.at)
-
-abbrev pub decreases-loop-at : goal.decreases-loop-at
-decreases-loop-at l = 1440 - l.at

@@ -9,5 +9,5 @@ slot-requires c = pair_is _ _ c.if-seat-node.true
 pub returns-then-seat-node : goal.returns-then-seat-node
 returns-then-seat-node c = search (number_in, rules)
 
-pub returns : goal.returns
-returns c = search (number_out, rules)
+pub returns-else-seat-node : goal.returns-else-seat-node
+returns-else-seat-node c = search (number_out, rules)

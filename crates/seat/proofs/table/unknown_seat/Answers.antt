@@ -1,15 +1,15 @@
-use Rattle.seat.proofs.Asked.{known_zero, unknown_none, unknown_next, known_found}
-use borrow.Author.Rules.{rules}
+use Rattle.std.proofs.Common.{rules, refl}
+use borrow.Author.Tests.{tests}
+use Rattle.rack.specs.laws.AnyLaws.{any_some}
+use Rattle.seat.specs.definitions.Table.{grants_of}
+use Rattle.seat.proofs.Asked.{known_zero, unknown_not_named}
 use Rattle.seat.proofs.table.unknown_seat.Goals as goal
 
-pub returns-then-seat-eq0 : goal.returns-then-seat-eq0
-returns-then-seat-eq0 c = search (known_zero, rules)
+pub returns-else-seat-ne0 : goal.returns-else-seat-ne0
+returns-else-seat-ne0 c = search (known_zero, rules)
 
-pub returns-then-is_named : goal.returns-then-is_named
-returns-then-is_named c = search (known_found, rules)
-
-pub loop-node-preserved : goal.loop-node-preserved
-loop-node-preserved c = search (unknown_next, rules)
-
-pub returns : goal.returns
-returns c = search (unknown_none, rules)
+pub returns-then-seat-ne0 : goal.returns-then-seat-ne0
+returns-then-seat-ne0 c =
+    unknown_not_named (grants_of c.args.grants.now) c.args.seat (search rules)
+    (any_some (λ node. ((grants_of c.args.grants.now).grant c.args.seat node).named) _ c.any.ensures.ran refl
+    (λ x q k. search (rules, tests)) (λ x q k. search (rules, tests)))

@@ -1,6 +1,0 @@
-use borrow.Author.Rules.{rules}
-use Rattle.file_save.proofs.Puts.{put_three}
-use Rattle.file_save.proofs.record.put_three.Goals as goal
-
-pub returns : goal.returns
-returns c = search (put_three, rules)

@@ -1,4 +1,0 @@
-use Rattle.register_image.proofs.fixed.node_wrong.Goals as goal
-
-pub returns : goal.returns
-returns c = cc
