@@ -1,7 +1,7 @@
 -- A search upwards, place by place, and one that goes round.
-use Rattle.std.specs.Prelude.{◌≡◌, ℕ, suc, ◌+◌, ◌-◌, ◌≤◌, ◌<◌, Bool, true, false, cond, Some, None, eqb}
+use Rattle.std.specs.Prelude.{◌≡◌, ℕ, suc, ◌+◌, ◌-◌, ◌≤◌, ◌<◌, Bool, true, false, cond, Option, Some, None, eqb}
 use Rattle.std.proofs.Common.{sym, ap, ◌∙◌, arith}
-use Rattle.std.specs.Option.{option_or}
+use Rattle.std.specs.Option.{MatchOption, option_or}
 use borrow.Author.Tests.{ne_eqb}
 use Rattle.arbiter.specs.definitions.Rings.{◌has◌, up_from, none, place_named, first_of}
 use Rattle.arbiter.specs.definitions.SetSearch.{first_from, next_in}
@@ -38,3 +38,9 @@ unfolding next_in first_from
 round_or set last =
     or_named (first_of (λ p. set has p) (up_from (last + 1) (11 - (last + 1)))) (first_of (λ p. set has p) (up_from 0 11))
     ∙ ap place_named (sym (round (λ p. set has p) last))
+
+-- what is found above, or else what a search from the lowest gives
+pub round_or_else : (set last : ℕ) (o : Option ℕ) {r : Option ℕ} {P : Type 0} → o ≡ place_named (first_from set (last + 1))
+    → MatchOption o P (λ x. r ≡ Some x) → (P → r ≡ place_named (first_from set 0)) → r ≡ place_named (next_in set last)
+round_or_else set last None e p f = f p ∙ ap (λ q. option_or q (place_named (first_from set 0))) e ∙ round_or set last
+round_or_else set last (Some x) e h f = h ∙ ap (λ q. option_or q (place_named (first_from set 0))) e ∙ round_or set last

@@ -37,7 +37,7 @@ fn first_from(set: u16, from: usize) -> Option<u8>
 pub fn next_after(set: u16, last: u8) -> Option<u8>
     ensures { result ≡ place_named (next_in set last) }
 {
-    first_from(set, last as usize + 1).or(first_from(set, 0))
+    first_from(set, last as usize + 1).or_else(|| first_from(set, 0))
 }
 
 // The low members that request.

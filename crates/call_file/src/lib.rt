@@ -9,6 +9,7 @@ ghost use Rattle.call_file.specs.definitions.Filed.{filed, rack_save, sizes, rac
 
 use call_numbers::{put_three, put_value, refuse};
 use call_save::save_on;
+use call_table::refusal::numbered;
 use file_load::{load_alone, load_file};
 use file_start::start_images;
 use rack::refusal::Refusal;
@@ -25,7 +26,8 @@ pub fn save_bytes<'a>(
 ) -> u8
     ensures { filed result answer.new buffer.new ≡ rack_save rack.now (images bridges.now devices.now) buffer.old }
 {
-    let l = match load_alone(rack) {
+    let loaded = load_alone(rack);
+    let l = match &loaded {
         Ok(l) => l,
         Err(r) => return refuse(answer, u8::from(r.refusal)),
     };
@@ -34,7 +36,8 @@ pub fn save_bytes<'a>(
         bridges,
         devices,
     };
-    put_value(answer, save_on(&registers, &l.grants, buffer))
+    let saved = save_on(&registers, &l.grants, buffer);
+    put_value(answer, numbered(saved))
 }
 
 // A number, the count of bridges and that of devices.
@@ -55,20 +58,26 @@ fn put_sizes(answer: &mut [u64; 8], before: usize, table: &Table)
 pub fn open_file(file: &[u8], bridges: &mut [u8], devices: &mut [u8], answer: &mut [u64; 8]) -> u8
     ensures { called result answer.new bridges.new devices.new ≡ rack_open file.now (images bridges.old devices.old) }
 {
-    let l = match load_file(file) {
+    let loaded = load_file(file);
+    let l = match &loaded {
         Ok(l) => l,
         Err(r) => return refuse(answer, u8::from(r.refusal)),
     };
+    let lent = Registers {
+        table: &l.table,
+        bridges,
+        devices,
+    };
+    if lent.lengths_wrong() {
+        put_sizes(answer, 0, &l.table);
+        return u8::from(Refusal::WrongLength);
+    }
+    put_sizes(answer, l.registers, &l.table);
     let mut registers = RegistersMut {
         table: &l.table,
         bridges,
         devices,
     };
-    if registers.lent().lengths_wrong() {
-        put_sizes(answer, 0, registers.table);
-        return u8::from(Refusal::WrongLength);
-    }
-    put_sizes(answer, l.registers, registers.table);
     start_images(file, &mut registers, l.registers, l.offset);
     0
 }

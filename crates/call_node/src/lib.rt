@@ -10,7 +10,7 @@ ghost use Rattle.call_table.specs.definitions.Call.{numbered, refusal_by, read_i
 
 use bus_reset::store::store_node;
 use call_table::refusal::{
-    read_refusal, refusal_by, region_refusal, store_refusal, view_refusal, window_refusal,
+    read_refusal, refused_by, region_refusal, store_refusal, view_refusal, window_refusal,
 };
 use claim_bus::ends::window_ends;
 use rack::Range;
@@ -29,7 +29,7 @@ pub fn read_on(
     ensures { numbered result ≡ read_in (tree_in registers.now) (grants_of grants.now) (images_in registers.now) node register }
 {
     let field = read_refusal(registers.table, node, register);
-    refusal_by(registers, grants, field, Ok(()))?;
+    refused_by(registers, grants, field, Ok(()))?;
     let part = registers.view(node);
     Ok(u64::from(read_register(part, register)))
 }
@@ -47,7 +47,7 @@ pub fn write_on(
     ensures same { Same registers.old registers.new }
 {
     let field = store_refusal(registers.table, node, register, enables);
-    refusal_by(&registers.lent(), grants, field, Ok(()))?;
+    refused_by(&registers.lent(), grants, field, Ok(()))?;
     store_node(registers, node, register, enables, put);
     Ok(())
 }
@@ -57,7 +57,7 @@ pub fn view_on<'a>(registers: &Registers<'_, 'a>, grants: &GrantTable, node: u8)
     ensures { result.now ≡ view_in (tree_in registers.now) (grants_of grants.now) (images_in registers.now) node }
 {
     let field = view_refusal(registers.table, node);
-    match refusal_by(registers, grants, field, Ok(())) {
+    match refused_by(registers, grants, field, Ok(())) {
         Ok(()) => registers.view(node),
         Err(_) => &registers.bridges[0..0],
     }
@@ -74,7 +74,7 @@ pub fn size_on(
     ensures same { Same registers.old registers.new }
 {
     let field = region_refusal(registers.table, node, region);
-    refusal_by(&registers.lent(), grants, field, Ok(()))?;
+    refused_by(&registers.lent(), grants, field, Ok(()))?;
     Ok(registers.size_region(node, region))
 }
 
@@ -88,6 +88,6 @@ pub fn ends_on(
     ensures { numbered result ≡ ends_in (tree_in registers.now) (grants_of grants.now) (images_in registers.now) node k }
 {
     let field = window_refusal(registers.table, node, k);
-    refusal_by(registers, grants, field, Ok(()))?;
+    refused_by(registers, grants, field, Ok(()))?;
     Ok(window_ends(registers, node, k))
 }

@@ -3,13 +3,12 @@
 
 ghost use Rattle.std.specs.Prelude.{◌≡◌, ◌≤◌, ◌++◌, [], ◌∷◌, cond, length, take};
 ghost use Rattle.std.specs.Result.{result_unwrap_or};
-ghost use Rattle.rack.specs.definitions.Refused.{number_of};
 ghost use Rattle.route_bus.specs.definitions.End.{outcome_number};
 ghost use Rattle.event_run.specs.definitions.Answers.{ending_number, ending_values};
 ghost use Rattle.check_search.specs.definitions.Report.{report_number, report_values};
 ghost use Rattle.claim_window.specs.definitions.Range.{is_empty};
-ghost use Rattle.call_table.specs.definitions.Call.{numbered, number_code};
-ghost use Rattle.call_numbers.specs.definitions.Numbers.{eight, zeros, numbers_of, code_of, reply_numbers, value_numbers, ends_code, ends_numbers, arbitration_numbers};
+ghost use Rattle.call_table.specs.definitions.Call.{number_code};
+ghost use Rattle.call_numbers.specs.definitions.Numbers.{eight, zeros, told_code, numbers_of, code_of, reply_numbers, value_numbers, ends_code, ends_numbers, step_numbers};
 ghost use Rattle.claim_agent.specs.definitions.Space.{space_number};
 
 use arbiter::Turn;
@@ -17,7 +16,6 @@ use check_search::Report;
 use claim_agent::Space;
 use event_run::{Answer, Ending};
 use rack::Range;
-use rack::refusal::Refusal;
 use route_bus::Outcome;
 
 // Numbers, and zeros after them.
@@ -122,18 +120,15 @@ fn range_numbers(r: Range) -> [u64; 8]
 }
 
 // What is told: 0 and its numbers, or a refusal's number and zeros.
-pub fn put(answer: &mut [u64; 8], told: Result<[u64; 8], Refusal>) -> u8
-    ensures { (result ≡ number_of told) × (answer.new ≡ result_unwrap_or told zeros) }
+pub fn put(answer: &mut [u64; 8], told: Result<[u64; 8], u8>) -> u8
+    ensures { (result ≡ told_code told) × (answer.new ≡ result_unwrap_or told zeros) }
 {
     match told {
         Ok(numbers) => {
             *answer = numbers;
             0
         }
-        Err(refusal) => {
-            *answer = [0; 8];
-            u8::from(refusal)
-        }
+        Err(refusal) => refuse(answer, refusal),
     }
 }
 
@@ -146,22 +141,22 @@ pub fn refuse(answer: &mut [u64; 8], refusal: u8) -> u8
 }
 
 // An answer; 0, or the refusal's number.
-pub fn put_reply(answer: &mut [u64; 8], r: Result<Answer, Refusal>) -> u8
-    ensures { (result ≡ code_of (numbered r)) × (answer.new ≡ reply_numbers (numbered r)) }
+pub fn put_reply(answer: &mut [u64; 8], r: Result<Answer, u8>) -> u8
+    ensures { (result ≡ code_of r) × (answer.new ≡ reply_numbers r) }
 {
     put(answer, r.map(answer_numbers))
 }
 
 // A number alone; 0, or the refusal's number.
-pub fn put_value(answer: &mut [u64; 8], n: Result<u64, Refusal>) -> u8
-    ensures { (result ≡ number_code (numbered n)) × (answer.new ≡ value_numbers (numbered n)) }
+pub fn put_value(answer: &mut [u64; 8], n: Result<u64, u8>) -> u8
+    ensures { (result ≡ number_code n) × (answer.new ≡ value_numbers n) }
 {
     put(answer, n.map(alone))
 }
 
 // Both ends of a window or region, none where it is empty; 0, or the refusal's number.
-pub fn put_ends(answer: &mut [u64; 8], e: Result<Range, Refusal>) -> u8
-    ensures { (result ≡ ends_code (numbered e)) × (answer.new ≡ ends_numbers (numbered e)) }
+pub fn put_ends(answer: &mut [u64; 8], e: Result<Range, u8>) -> u8
+    ensures { (result ≡ ends_code e) × (answer.new ≡ ends_numbers e) }
 {
     put(answer, e.map(range_numbers))
 }
@@ -174,11 +169,11 @@ pub fn put_three(answer: &mut [u64; 8], a: u64, b: u64, c: u64)
 }
 
 // Who is granted, and the state after; 0, or the refusal's number.
-pub fn put_arbitration(answer: &mut [u64; 8], a: Result<Turn, Refusal>) -> u8
-    ensures { (result ≡ number_of a) × (answer.new ≡ arbitration_numbers a) }
+pub fn put_arbitration(answer: &mut [u64; 8], a: Result<Turn, u8>) -> u8
+    ensures { (result ≡ told_code a) × (answer.new ≡ step_numbers a) }
 {
     match a {
-        Err(refusal) => refuse(answer, u8::from(refusal)),
+        Err(n) => refuse(answer, n),
         Ok(
             Turn {
                 member: None,

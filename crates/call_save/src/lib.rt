@@ -10,7 +10,7 @@ ghost use Rattle.register_image.specs.definitions.Image.{images};
 ghost use Rattle.call_table.specs.definitions.Call.{numbered};
 ghost use Rattle.call_save.specs.definitions.Save.{save_in, buffer_in};
 
-use call_table::refusal::refusal_by;
+use call_table::refusal::refused_by;
 use file_save::save::save;
 use rack::Rack;
 use rack::refusal::Refusal;
@@ -38,7 +38,7 @@ fn copy_start(file: &[u8], n: usize, out: &mut [u8])
 pub fn save_on(registers: &Registers, grants: &GrantTable, out: &mut [u8]) -> Result<u64, Refusal>
     ensures { (numbered result ≡ save_in (tree_in registers.now) (grants_of grants.now) (images_in registers.now) (length out.old)) × (out.new ≡ buffer_in (tree_in registers.now) (grants_of grants.now) (images_in registers.now) out.old) }
 {
-    refusal_by(registers, grants, Ok(()), Ok(()))?;
+    refused_by(registers, grants, Ok(()), Ok(()))?;
     let mut space = longest();
     let file: &mut [u8] = &mut space;
     let n = save(registers, grants, file);

@@ -1,12 +1,12 @@
 // Refusals 6 to 15 and 18 of a call, in their order.
 ghost use Rattle.register_image.specs.definitions.Lent.{tree_in, images_in};
-ghost use Rattle.std.specs.Prelude.{◌≡◌};
+ghost use Rattle.std.specs.Prelude.{◌≡◌, ◌≢◌, ℕ, IfErr};
 ghost use Rattle.rack.specs.definitions.First.{◌when◌};
 ghost use Rattle.rack.specs.definitions.Refused.{number_of};
 ghost use Rattle.rack.specs.definitions.Table.{tree_of};
 ghost use Rattle.seat.specs.definitions.Grants.{acting};
 ghost use Rattle.seat.specs.definitions.Table.{grants_of};
-ghost use Rattle.call_table.specs.definitions.Call.{refusal_by, read_refusal, store_refusal, view_refusal, region_refusal, window_refusal, event_refusal, seat_refusal};
+ghost use Rattle.call_table.specs.definitions.Call.{numbered, Numbers, number_by, refusal_by, read_refusal, store_refusal, view_refusal, region_refusal, window_refusal, event_refusal, seat_refusal};
 
 use bus_reset::agreement::image_refusal;
 use file_record::Event;
@@ -17,8 +17,33 @@ use rack_refusals::refusal_of;
 use register_image::Registers;
 use seat::table::{GrantTable, is_wrong, unknown_seat};
 
-// Whether a call is refused; `field` is 13 by what it is given, `seat` 15 by who acts.
-pub fn refusal_by(
+// What a call gives, with its refusal as a number.
+pub fn numbered<A>(r: Result<A, Refusal>) -> Result<A, u8>
+    ensures { result ≡ numbered r }
+{
+    r.map_err(u8::from)
+}
+
+// Whether a call is refused; `field` is 13 by what it is given, `seat` 15 by who acts. Each is told as the caller's error.
+pub fn refusal_by<E: From<Refusal> + Drop>(
+    registers: &Registers,
+    grants: &GrantTable,
+    field: Result<(), E>,
+    seat: Result<(), E>,
+) -> Result<(), E>
+    ensures { (n : E → ℕ) → Numbers E.from_gives n → IfErr field (λ e. n e ≢ 0) → number_by n result ≡ refusal_by (tree_in registers.now) (grants_of grants.now) (images_in registers.now) (number_by n field) (number_by n seat) }
+{
+    refusal_of(registers.table)?;
+    image_refusal(registers)?;
+    field?;
+    if is_wrong(grants) {
+        return Err(E::from(Refusal::BadSeatRecord));
+    }
+    seat
+}
+
+// The same of a refusal.
+pub fn refused_by(
     registers: &Registers,
     grants: &GrantTable,
     field: Result<(), Refusal>,
@@ -26,13 +51,7 @@ pub fn refusal_by(
 ) -> Result<(), Refusal>
     ensures { number_of result ≡ refusal_by (tree_in registers.now) (grants_of grants.now) (images_in registers.now) (number_of field) (number_of seat) }
 {
-    refusal_of(registers.table)?;
-    image_refusal(registers)?;
-    field?;
-    if is_wrong(grants) {
-        return Err(Refusal::BadSeatRecord);
-    }
-    seat
+    refusal_by(registers, grants, field, seat)
 }
 
 // 13 of a field.

@@ -7,7 +7,7 @@ ghost use Rattle.seat.specs.definitions.Grants.{acting};
 ghost use Rattle.seat.specs.definitions.Table.{grants_of};
 ghost use Rattle.call_table.specs.definitions.Call.{numbered, run_in, check_in};
 
-use crate::refusal::{event_refusal, refusal_by, seat_refusal};
+use crate::refusal::{event_refusal, refused_by, seat_refusal};
 use event_run::Answer;
 use event_run::run::answer_event;
 use file_record::Event;
@@ -27,7 +27,7 @@ pub fn run_on(
 {
     let field = event_refusal(registers.table, e);
     let unknown = seat_refusal(grants, seat, e);
-    refusal_by(&registers.lent(), grants, field, unknown)?;
+    refused_by(&registers.lent(), grants, field, unknown)?;
     Ok(answer_event(registers, grants, seat, e))
 }
 
@@ -35,7 +35,7 @@ pub fn run_on(
 pub fn check_on(registers: &Registers, grants: &GrantTable) -> Result<Answer, Refusal>
     ensures { numbered result ≡ check_in (tree_in registers.now) (grants_of grants.now) (images_in registers.now) }
 {
-    refusal_by(registers, grants, Ok(()), Ok(()))?;
+    refused_by(registers, grants, Ok(()), Ok(()))?;
     let r = check_sweep::buses::check_rack(registers);
     Ok(Answer::Checked(r))
 }

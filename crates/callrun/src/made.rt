@@ -3,6 +3,7 @@ use crate::asked::Asked;
 use arbiter::{State, arbitrate};
 use call_numbers::{put_arbitration, put_ends, put_reply, put_value};
 use call_open::{read_register, run_check, run_event, size_region, window_ends, write_register};
+use call_table::refusal::numbered;
 use file_record::events::event_in;
 use rack::Rack;
 
@@ -14,7 +15,7 @@ fn step_made(a: Asked, answer: &mut [u64; 8]) -> u8 {
         high: a.node,
         low: a.index,
     };
-    put_arbitration(answer, arbitrate(mask, requests, s))
+    put_arbitration(answer, numbered(arbitrate(mask, requests, s)))
 }
 
 // A view gives no number: its part is empty where it is refused.
@@ -29,19 +30,25 @@ pub fn make(
     match a.operation {
         1 => put_value(
             answer,
-            read_register(rack, bridges, devices, a.node, a.index),
+            numbered(read_register(rack, bridges, devices, a.node, a.index)),
         ),
         2 => match write_register(rack, bridges, devices, a.node, a.index, a.enables, a.put) {
             Ok(()) => 0,
             Err(refusal) => u8::from(refusal),
         },
-        4 => put_value(answer, size_region(rack, bridges, devices, a.node, a.index)),
-        5 => put_ends(answer, window_ends(rack, bridges, devices, a.node, a.index)),
+        4 => put_value(
+            answer,
+            numbered(size_region(rack, bridges, devices, a.node, a.index)),
+        ),
+        5 => put_ends(
+            answer,
+            numbered(window_ends(rack, bridges, devices, a.node, a.index)),
+        ),
         6 => put_reply(
             answer,
-            run_event(rack, bridges, devices, a.node, event_in(event, 0)),
+            numbered(run_event(rack, bridges, devices, a.node, event_in(event, 0))),
         ),
-        7 => put_reply(answer, run_check(rack, bridges, devices)),
+        7 => put_reply(answer, numbered(run_check(rack, bridges, devices))),
         12 => step_made(a, answer),
         _ => 0,
     }

@@ -6,6 +6,7 @@ use crate::made::make;
 use call_numbers::put_value;
 use call_open::view;
 use call_save::save_rack;
+use call_table::refusal::numbered;
 use rack::Rack;
 use std::io::{Print, Read, StdinLock, Stdout};
 
@@ -31,20 +32,23 @@ fn fill_from(input: &mut StdinLock, buf: &mut [u8], n: usize) -> Option<()> {
     input.read_exact(&mut buf[..n]).ok()
 }
 
-// The code, the eight numbers, and the length of the part that is shown.
+// The code, the eight numbers, and the length of the part that is shown. All are tried: what cannot be written keeps back nothing after it.
 fn write_numbers(output: &Stdout, code: u8, answer: [u64; 8], shown: u16) -> Option<()> {
-    output.write_all(&[code]).ok()?;
+    let mut told = output.write_all(&[code]).ok();
     for number in answer {
-        output.write_all(&number.to_le_bytes()).ok()?;
+        let next = output.write_all(&number.to_le_bytes()).ok();
+        told = told.and(next);
     }
-    output.write_all(&shown.to_le_bytes()).ok()
+    let last = output.write_all(&shown.to_le_bytes()).ok();
+    told.and(last)
 }
 
-// The part that is shown, or none, and both images.
+// The part that is shown, or none, and both images; all are tried here too.
 fn write_rest(output: &Stdout, part: &[u8], bridges: &[u8], devices: &[u8]) -> Option<()> {
-    output.write_all(part).ok()?;
-    output.write_all(bridges).ok()?;
-    output.write_all(devices).ok()
+    let first = output.write_all(part).ok();
+    let second = output.write_all(bridges).ok();
+    let third = output.write_all(devices).ok();
+    first.and(second).and(third)
 }
 
 fn answer_view<'a>(
@@ -78,7 +82,10 @@ fn answer_into<'a>(
 ) -> Option<()> {
     out.fill(a.enables);
     let mut answer = [0u64; 8];
-    let code = put_value(&mut answer, save_rack(rack, bridges, devices, out));
+    let code = put_value(
+        &mut answer,
+        numbered(save_rack(rack, bridges, devices, out)),
+    );
     write_numbers(output, code, answer, (a.put % 65536) as u16)?;
     write_rest(output, out, bridges, devices)
 }

@@ -25,7 +25,7 @@ use Rattle.claim_agent.specs.declared.DeviceClaims.{DeviceClaims}
 use Rattle.claim_agent.specs.definitions.Claim.{area_at, no_area, regions_until, reached, offset_in}
 
 -- an address that an area holds is not below its first
-first_le : (s : Area) (io : Bool) (a : ℕ) → holds s io a ≡ true → s.range.first ≤ a
+pub first_le : (s : Area) (io : Bool) (a : ℕ) → holds s io a ≡ true → s.range.first ≤ a
 unfolding holds
 first_le s io a q =
     leb-true s.range.first a

@@ -17,7 +17,7 @@ use Rattle.claim_bus.proofs.Next.{next_if_none, next_if_some, next_is_node, foun
 
 module _ (r : Registers) (x : Transaction) where
   -- a table counts in a byte
-  few : (tree_in r).count ≤ 255
+  pub few : (tree_in r).count ≤ 255
   few = omega arith
 
   abbrev on_bus : ℕ → Bool

@@ -19,18 +19,12 @@ fn counts(registers: &Registers, t: Transaction, g: u8) -> bool
     agent_claims(registers, t.bus, g, t.space, t.address)
 }
 
-// Whether node i is on the bus, claims and does not drive.
-fn counts_on_bus(registers: &Registers, t: Transaction, i: u8) -> bool
-    ensures { result ≡ counted_on_bus (tree_in registers.now) (images_in registers.now) t.space t.bus t.driver t.address i }
-{
-    parent_at(registers.table, i) == t.bus && counts(registers, t, i)
-}
-
-// The first node on the bus, from number `from` on, that does so.
+// The first node on the bus, from number `from` on, that claims and does not drive. Its bus is tested before anything is called.
 fn next_claimant(registers: &Registers, t: Transaction, from: u8) -> Option<u8>
     ensures { result ≡ find_from (counted_on_bus (tree_in registers.now) (images_in registers.now) t.space t.bus t.driver t.address) from ((tree_in registers.now).count - from) }
 {
-    (from..count_of(registers.table)).find(|i| counts_on_bus(registers, t, *i))
+    (from..count_of(registers.table)).find(|i| parent_at(registers.table, *i) == t.bus
+        && counts(registers, t, *i))
 }
 
 // The claimants of a transaction, in agent order: the holder, then the nodes by number.

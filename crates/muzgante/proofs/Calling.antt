@@ -1,6 +1,7 @@
 -- What each call from C says once its rack is read: the number of a refused one, the answer of an accepted one.
 use mathlib.Core.Path.{◌≡◌, refl, sym, ap, ◌∙◌}
 use mathlib.Core.Bool.{Bool, true, false}
+use Rattle.std.specs.Prelude.{Result, Ok, Err}
 use mathlib.Core.List.{List}
 use Prim.Native.Nat.{ℕ}
 use native.Mathlib.Omega.{arith}
@@ -20,12 +21,13 @@ use Rattle.file_record.specs.definitions.Load.{rack_alone}
 use Rattle.file_record.specs.declared.Refused.{Refused}
 use Rattle.file_record.specs.definitions.Loads.{Accepts, Refuses}
 use Rattle.rack.specs.declared.refusal.Refusal.{Refusal}
-use Rattle.rack.specs.definitions.Refused.{refusal_number}
+use Rattle.rack.specs.definitions.Refused.{refusal_number, number_of}
 use Rattle.rack.specs.laws.RefusedLaws.{refusal_not_0}
 use Rattle.rack.specs.declared.Range.{Range}
 use Rattle.event_run.specs.declared.Answer.{Answer}
-use Rattle.call_table.specs.definitions.Call.{Reply, run_in, check_in, ends_in}
-use Rattle.call_numbers.specs.definitions.Numbers.{zeros, code_of, reply_numbers, ends_code, ends_numbers}
+use Rattle.arbiter.specs.declared.Turn.{Turn}
+use Rattle.call_table.specs.definitions.Call.{Reply, numbered, run_in, check_in, ends_in}
+use Rattle.call_numbers.specs.definitions.Numbers.{zeros, told_code, code_of, reply_numbers, arbitration_numbers, step_numbers, ends_code, ends_numbers}
 use Rattle.call_numbers.specs.definitions.Called.{called, refused_call}
 use Rattle.muzgante.specs.definitions.Called.{replied_call, ends_call, rack_run, rack_check, rack_window, reset_refusal, rack_reset}
 
@@ -134,3 +136,9 @@ module _ (b : List ℕ) {l : Loaded} (loads : Accepts l (rack_alone b)) where
           ap (λ (im : Images). record { code = 0; numbers = zeros; after = im })
           (e ∙ ap (λ (t : Tree). reset_images t (images bs ds)) loads.tree)
           ∙ sym (is_given none _ _ refl)
+
+-- a step of the arbiter: its refusal is told by its number
+pub grant_told : (a : Result Turn Refusal) {p : Reply Turn} → p ≡ numbered a → {r : ℕ} {ns : List ℕ} → r ≡ told_code p
+    → ns ≡ step_numbers p → (r ≡ number_of a) × (ns ≡ arbitration_numbers a)
+grant_told (Ok t) e er en = (er ∙ ap told_code e, en ∙ ap step_numbers e)
+grant_told (Err x) e er en = (er ∙ ap told_code e, en ∙ ap step_numbers e)

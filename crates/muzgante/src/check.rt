@@ -5,6 +5,7 @@ ghost use Rattle.call_numbers.specs.definitions.Called.{called};
 ghost use Rattle.muzgante.specs.definitions.Called.{rack_check};
 
 use call_numbers::{put_reply, refuse};
+use call_table::refusal::numbered;
 use file_load::load_alone;
 use register_image::Registers;
 
@@ -17,7 +18,8 @@ pub fn rack_check<'a>(
 ) -> u8
     ensures { called result answer.new bridges.now devices.now ≡ rack_check rack.now (images bridges.now devices.now) }
 {
-    let l = match load_alone(rack) {
+    let loaded = load_alone(rack);
+    let l = match &loaded {
         Ok(l) => l,
         Err(r) => return refuse(answer, u8::from(r.refusal)),
     };
@@ -27,5 +29,5 @@ pub fn rack_check<'a>(
         devices,
     };
     let r = call_table::runs::check_on(&registers, &l.grants);
-    put_reply(answer, r)
+    put_reply(answer, numbered(r))
 }

@@ -5,6 +5,7 @@ ghost use Rattle.call_numbers.specs.definitions.Called.{called};
 ghost use Rattle.muzgante.specs.definitions.Called.{rack_run};
 
 use call_numbers::{put_reply, refuse};
+use call_table::refusal::numbered;
 use file_load::load_alone;
 use file_record::events::{event_bytes, event_in};
 use register_image::RegistersMut;
@@ -20,7 +21,8 @@ pub fn rack_run(
 ) -> u8
     ensures { called result answer.new bridges.new devices.new ≡ rack_run rack.now seat event.now (images bridges.old devices.old) }
 {
-    let l = match load_alone(rack) {
+    let loaded = load_alone(rack);
+    let l = match &loaded {
         Ok(l) => l,
         Err(r) => return refuse(answer, u8::from(r.refusal)),
     };
@@ -34,5 +36,5 @@ pub fn rack_run(
     };
     let e = event_in(event, 0);
     let r = call_table::runs::run_on(&mut registers, &l.grants, seat, e);
-    put_reply(answer, r)
+    put_reply(answer, numbered(r))
 }

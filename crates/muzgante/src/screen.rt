@@ -6,6 +6,7 @@ ghost use Rattle.call_numbers.specs.definitions.Called.{called};
 ghost use Rattle.muzgante.specs.definitions.Called.{rack_window, rack_reset};
 
 use call_numbers::{put_ends, refuse};
+use call_table::refusal::numbered;
 use file_load::load_alone;
 use rack::refusal::Refusal;
 use register_image::{Registers, RegistersMut};
@@ -14,7 +15,8 @@ use register_image::{Registers, RegistersMut};
 pub fn rack_reset(rack: &[u8], bridges: &mut [u8], devices: &mut [u8]) -> u8
     ensures { called result zeros bridges.new devices.new ≡ rack_reset rack.now (images bridges.old devices.old) }
 {
-    let l = match load_alone(rack) {
+    let loaded = load_alone(rack);
+    let l = match &loaded {
         Ok(l) => l,
         Err(r) => return u8::from(r.refusal),
     };
@@ -45,7 +47,8 @@ pub fn rack_window<'a>(
 ) -> u8
     ensures { called result answer.new bridges.now devices.now ≡ rack_window rack.now (images bridges.now devices.now) node k }
 {
-    let l = match load_alone(rack) {
+    let loaded = load_alone(rack);
+    let l = match &loaded {
         Ok(l) => l,
         Err(r) => return refuse(answer, u8::from(r.refusal)),
     };
@@ -55,5 +58,5 @@ pub fn rack_window<'a>(
         devices,
     };
     let e = call_node::ends_on(&registers, &l.grants, node, k);
-    put_ends(answer, e)
+    put_ends(answer, numbered(e))
 }

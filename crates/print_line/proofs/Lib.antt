@@ -1,2 +1,3 @@
 -- What the functions' proofs use.
 mod Digits
+mod Room

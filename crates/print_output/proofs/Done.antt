@@ -5,14 +5,13 @@ use mathlib.Core.List.{List}
 use Prim.Native.Nat.{ℕ}
 use lib.Dec.{leb}
 use lib.ListN.{length}
-use Rattle.rack.specs.declared.refusal.Refusal.{Refusal}
 use Rattle.print_file.specs.declared.Cursor.{Cursor}
 use Rattle.print_output.specs.declared.Rest.{Rest}
 use Rattle.print_output.specs.declared.Rest.TheVariants.{Refused, Events, Nothing}
 use Rattle.print_output.specs.definitions.Rest.{is_done}
 
 module _ (b : List ℕ) {rest : Rest} where
-  pub done_refused : {r : Refusal} {offset : ℕ} → rest ≡ Refused r offset → false ≡ is_done b rest
+  pub done_refused : {number offset : ℕ} → rest ≡ Refused number offset → false ≡ is_done b rest
   unfolding is_done
   done_refused e = rw e
 

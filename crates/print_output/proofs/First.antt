@@ -11,6 +11,7 @@ use Rattle.file_record.specs.declared.Loaded.{Loaded}
 use Rattle.file_record.specs.definitions.Load.{file_in}
 use Rattle.file_record.specs.declared.Refused.{Refused}
 use Rattle.file_record.specs.definitions.Loads.{Accepts, Refuses}
+use Rattle.rack.specs.definitions.Refused.{refusal_number}
 use Rattle.rack.specs.laws.RefusedLaws.{refusal_not_0}
 use Rattle.file_record.specs.definitions.Start.{start_from, start_images}
 use Rattle.file_record.specs.laws.LoadLaws.{file_long, file_begun, file_offset}
@@ -18,16 +19,17 @@ use Rattle.print_file.specs.declared.Cursor.{Cursor}
 use Rattle.print_file.specs.definitions.Output.{first_at}
 use Rattle.print_output.specs.declared.Rest.TheVariants as rest
 use Rattle.print_output.specs.definitions.Rest.{standing, first_of}
-use Rattle.print_output.specs.laws.RestLaws.{refusal_back, first_accepted, first_refused}
+use Rattle.print_output.specs.laws.RestLaws.{first_accepted, first_refused}
 
 module _ (b : List ℕ) {r : Refused} (loads : Refuses r (file_in b)) where
   pub refused_offset : r.offset ≤ 65536
   refused_offset = rw loads.offset (file_offset b)
 
-  pub rest_refused : (im : Images) → standing (rest.Refused r.refusal r.offset) im ≡ first_of b im
-  rest_refused im =
+  pub rest_refused : (im : Images) {number : ℕ} → number ≡ refusal_number r.refusal
+      → standing (rest.Refused number r.offset) im ≡ first_of b im
+  rest_refused im e =
       let bad : (file_in b).refusal ≡ 0 → ⊥ = λ z. refusal_not_0 r.refusal (loads.refusal ∙ z) in
-      sym (first_refused b im bad ∙ rw (← loads.refusal, refusal_back r.refusal, ← loads.offset))
+      rw (e, loads.refusal, loads.offset) (sym (first_refused b im bad))
 
 module _ (b : List ℕ) {l : Loaded} (loads : Accepts l (file_in b)) where
   accepted : (file_in b).refusal ≡ 0

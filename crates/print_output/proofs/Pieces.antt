@@ -13,8 +13,6 @@ use Rattle.rack.specs.definitions.Refusal.{rack_refusal}
 use Rattle.seat.specs.definitions.Grants.{Grants}
 use Rattle.register_image.specs.definitions.Image.{Images}
 use Rattle.print_line.specs.definitions.Line.{refused_line}
-use Rattle.rack.specs.declared.refusal.Refusal.{Refusal}
-use Rattle.rack.specs.definitions.Refused.{refusal_number}
 use Rattle.print_file.specs.declared.Cursor.{Cursor}
 use Rattle.print_file.specs.declared.Filled.{Filled}
 use Rattle.print_file.specs.definitions.Filling.{part_of}
@@ -28,10 +26,10 @@ use Rattle.print_output.specs.definitions.Piece.{piece_of, Puts, Ready, to_go, O
 use Rattle.print_output.specs.laws.PieceLaws.{piece_output}
 
 module _ (t : Tree) (g : Grants) (b : List ℕ) (room : ℕ) (rest : Rest) (im : Images) (old : List ℕ) {new : List ℕ} where
-  pub puts_refused : {r : Refusal} {offset n len : ℕ} → rest ≡ Refused r offset → n ≡ refusal_number r → new ≡ over_start old (refused_line n offset)
-      → len ≡ length (refused_line n offset) → Puts (record { len = len; rest = Nothing }) old new im (piece_of t g b room rest im)
+  pub puts_refused : {number offset len : ℕ} → rest ≡ Refused number offset → new ≡ over_start old (refused_line number offset)
+      → len ≡ length (refused_line number offset) → Puts (record { len = len; rest = Nothing }) old new im (piece_of t g b room rest im)
   unfolding piece_of
-  puts_refused e n o l = rw (e, ← n) (record { out = o; len = l; rest = refl; after = refl })
+  puts_refused e o l = rw e (record { out = o; len = l; rest = refl; after = refl })
 
   pub puts_events : {at : Cursor} {f : Filled} {after : Images} → rest ≡ Events at → Fills f old new after (part_of t g b room at im)
       → Puts (record { len = f.len; rest = Events f.next }) old new after (piece_of t g b room rest im)
@@ -50,9 +48,9 @@ module _ (t : Tree) (g : Grants) (b : List ℕ) (room : ℕ) (rest : Rest) (im :
       rw (p.rest, p.after, p.out, take_at piece.text (drop (length piece.text) old) r.len (sym p.len))
       (piece_output t g b room rest im)
 
-  pub text_refused : {r : Refusal} {offset n len : ℕ} → rest ≡ Refused r offset → n ≡ refusal_number r → new ≡ over_start old (refused_line n offset)
-      → len ≡ length (refused_line n offset) → take len new ++ output_from t g b Nothing im ≡ output_from t g b rest im
-  text_refused {len = len} e n o l = puts_text (record { len = len; rest = Nothing }) (puts_refused e n o l)
+  pub text_refused : {number offset len : ℕ} → rest ≡ Refused number offset → new ≡ over_start old (refused_line number offset)
+      → len ≡ length (refused_line number offset) → take len new ++ output_from t g b Nothing im ≡ output_from t g b rest im
+  text_refused {len = len} e o l = puts_text (record { len = len; rest = Nothing }) (puts_refused e o l)
 
   pub text_events : {at : Cursor} (f : Filled) {after : Images} → rest ≡ Events at → Fills f old new after (part_of t g b room at im)
       → take f.len new ++ output_from t g b (Events f.next) after ≡ output_from t g b rest im
@@ -81,7 +79,7 @@ module _ (b : List ℕ) (t : Tree) {rest : Rest} where
     unfolding Ready
     ready_counted = ready.2
 
-  pub onward_refused : (room : ℕ) {r : Refusal} {offset len : ℕ} → rest ≡ Refused r offset → len ≤ 96 → 96 ≤ room
+  pub onward_refused : (room : ℕ) {number offset len : ℕ} → rest ≡ Refused number offset → len ≤ 96 → 96 ≤ room
       → Onward b t room rest (record { len = len; rest = Nothing })
   unfolding Ready to_go
   onward_refused room e l r = rw e (record { inside = omega arith; ready = tt; less = λ q. omega arith })

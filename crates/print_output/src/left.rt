@@ -30,7 +30,7 @@ pub fn first_rest(
             Rest::Events(start(file, &mut registers, l.registers, l.offset))
         }
         Err(r) => Rest::Refused {
-            refusal: r.refusal,
+            number: u8::from(r.refusal),
             offset: r.offset as u32,
         },
     }

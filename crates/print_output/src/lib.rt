@@ -2,7 +2,6 @@
 #![tactic(auto)]
 
 use print_file::Cursor;
-use rack::refusal::Refusal;
 
 pub mod left;
 pub mod part;
@@ -10,7 +9,7 @@ pub mod part;
 // What is left of a file's output: the one line of a refused file, the lines of an accepted one from an event on, or nothing.
 #[derive(Clone, Copy)]
 pub enum Rest {
-    Refused { refusal: Refusal, offset: u32 },
+    Refused { number: u8, offset: u32 },
     Events(Cursor),
     Nothing,
 }

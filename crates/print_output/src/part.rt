@@ -26,8 +26,8 @@ pub fn put_part(
     ensures same { Same registers.old registers.new }
 {
     match rest {
-        Rest::Refused { refusal, offset } => {
-            let len = put_refused(u8::from(refusal), offset, out);
+        Rest::Refused { number, offset } => {
+            let len = put_refused(number, offset, out);
             Put {
                 len,
                 rest: Rest::Nothing,

@@ -76,13 +76,13 @@ module _ (t : Tree) (g : Grants) (b : List ℕ) where
   pub piece_end : (room : ℕ) (rest : Rest) (im : Images)
       → end_from t g b rest im ≡ end_from t g b (piece_of t g b room rest im).rest (piece_of t g b room rest im).after
   unfolding piece_of end_from
-  piece_end room (Refused refusal offset) im = refl
+  piece_end room (Refused number offset) im = refl
   piece_end room (Events at) im = ap at_place (part_end (length b) room at im)
   piece_end room Nothing im = refl
 
   -- and where all is printed, it is reached
   pub done_end : (rest : Rest) (im : Images) → is_done b rest ≡ true → end_from t g b rest im ≡ standing rest im
   unfolding is_done end_from
-  done_end (Refused refusal offset) im q = absurd (false≢true q)
+  done_end (Refused number offset) im q = absurd (false≢true q)
   done_end (Events at) im q = ap at_place (end_past (length b) at im (leb-true (length b) at.offset q))
   done_end Nothing im q = refl

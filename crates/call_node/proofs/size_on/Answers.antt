@@ -4,10 +4,10 @@ use Rattle.call_table.specs.definitions.Call.{size_in}
 use Rattle.call_table.specs.laws.HandedBack.{is_handed_on, is_given}
 use Rattle.call_node.proofs.size_on.Goals as goal
 
-pub returns-in_err-refusal_by-clause-leaves : goal.returns-in_err-refusal_by-clause-leaves
+pub returns-in_err-refused_by-clause-leaves : goal.returns-in_err-refused_by-clause-leaves
 unfolding size_in
-returns-in_err-refusal_by-clause-leaves c =
-    let h = rw (c.lent.ensures.table, c.lent.ensures.bridges, c.lent.ensures.devices) at c.in_err-refusal_by.ensures in (
+returns-in_err-refused_by-clause-leaves c =
+    let h = rw (c.lent.ensures.table, c.lent.ensures.bridges, c.lent.ensures.devices) at c.in_err-refused_by.ensures in (
       is_handed_on _ _ _ _ _ c.region_refusal-field.ensures refl _ _ c.from_residual.result h c.from_residual.ensures.1,
       refl,
     )
@@ -15,7 +15,7 @@ returns-in_err-refusal_by-clause-leaves c =
 pub returns-clause-leaves : goal.returns-clause-leaves
 unfolding size_in
 returns-clause-leaves c =
-    let h = rw (c.lent.ensures.table, c.lent.ensures.bridges, c.lent.ensures.devices) at c.in_ok-refusal_by.ensures in (
+    let h = rw (c.lent.ensures.table, c.lent.ensures.bridges, c.lent.ensures.devices) at c.in_ok-refused_by.ensures in (
       is_given _ _ _ _ _ c.region_refusal-field.ensures refl _ _ h refl (ap Ok c.size_region.ensures.leaves.0),
       c.size_region.ensures.leaves.1,
     )

@@ -21,6 +21,10 @@ abbrev pub numbers_of : Answer → List ℕ
 numbers_of a = eight (answer_number a) (answer_values a)
 
 -- 01: 'and return the number'; 0 where nothing is refused
+abbrev pub told_code : {A : Type 0} → Reply A → ℕ
+told_code (Err n) = n
+told_code (Ok x) = 0
+
 abbrev pub code_of : Reply Answer → ℕ
 code_of (Err n) = n
 code_of (Ok a) = 0
@@ -51,3 +55,8 @@ turn_numbers (Some member) s = eight 1 (member ∷ s.high ∷ s.low ∷ [])
 abbrev pub arbitration_numbers : Result Turn Refusal → List ℕ
 arbitration_numbers (Err r) = zeros
 arbitration_numbers (Ok t) = turn_numbers t.member t.after
+
+-- of a step whose refusal is a number
+abbrev pub step_numbers : Reply Turn → List ℕ
+step_numbers (Err n) = zeros
+step_numbers (Ok t) = turn_numbers t.member t.after

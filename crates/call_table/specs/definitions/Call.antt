@@ -1,5 +1,5 @@
 -- The open calls over a decoded rack and two images: each answers or refuses by number, and says what both images are then.
-use Rattle.std.specs.Prelude.{ℕ, Bool, ◌||◌, List, [], ◌∷◌, leb, ltb, Ok, Err}
+use Rattle.std.specs.Prelude.{◌≡◌, ℕ, Bool, ◌||◌, List, [], ◌∷◌, leb, ltb, Ok, Err}
 use Rattle.std.specs.Prelude as std
 use Rattle.rack.specs.declared.refusal.Refusal.{Refusal}
 use Rattle.rack.specs.declared.Range.{Range}
@@ -30,6 +30,15 @@ Reply A = std.Result A ℕ
 abbrev pub numbered : {A : Type 0} → std.Result A Refusal → Reply A
 numbered (Ok x) = Ok x
 numbered (Err r) = Err (refusal_number r)
+
+-- a way to number the errors that are made of refusals: each has the refusal's number
+abbrev pub Numbers : {E : Type 0} → (Refusal → E → Type 0) → (E → ℕ) → Type 0
+Numbers {E} gives n = (r : Refusal) (e : E) → gives r e → n e ≡ refusal_number r
+
+-- the error's number, 0 where there is none
+abbrev pub number_by : {A E : Type 0} → (E → ℕ) → std.Result A E → ℕ
+number_by n (Ok x) = 0
+number_by n (Err e) = n e
 
 -- 01: 'Calls apply 6 to 10 to the decoded rack node by node, as a file would meet them, then 11 to 13, and return the number'; 02, E1: 14
 -- and 15, 'both after 13'; E5: 18 'straight after 12', among those of the images; 0 where the call is accepted. `field` is 13 where a field

@@ -22,7 +22,7 @@ use Rattle.file_record.specs.laws.Turns.{read_past, read_stop, read_step, taken_
 use Rattle.file_record.specs.laws.LoadLaws.{taken_accepted, Begun, taken_begun}
 
 -- a refusal
-loads_refused : {e : Refusal} {d : Loading} {o : ℕ} → d ≡ refused (refusal_number e) o → Loads (Err (record { refusal = e; offset = o })) d
+pub loads_refused : {e : Refusal} {d : Loading} {o : ℕ} → d ≡ refused (refusal_number e) o → Loads (Err (record { refusal = e; offset = o })) d
 loads_refused q = rw q (record { refusal = refl; offset = refl })
 
 module _ (whole : Bool) (b : List ℕ) where

@@ -3,7 +3,6 @@ use Rattle.std.specs.Prelude.{◌≡◌, ℕ, ◌+◌, ◌-◌, ◌≤◌, ◌<�
 use Rattle.rack.specs.definitions.Buffer.{over_start}
 use Rattle.rack.specs.definitions.Tree.{Tree}
 use Rattle.rack.specs.definitions.Refusal.{rack_refusal}
-use Rattle.rack.specs.definitions.Refused.{refusal_number}
 use Rattle.seat.specs.definitions.Grants.{Grants}
 use Rattle.register_image.specs.definitions.Image.{Images}
 use Rattle.print_line.specs.definitions.Line.{refused_line}
@@ -26,7 +25,7 @@ of_events p = record { text = p.text; rest = Events p.next; after = p.after }
 -- 01: 'A refused input prints only `refused N at O`': nothing is left after that line. Of events, as many whole lines as a buffer of
 -- `room` bytes takes
 unfoldable pub piece_of : Tree → Grants → List ℕ → ℕ → Rest → Images → Piece
-piece_of t g b room (Refused refusal offset) im = record { text = refused_line (refusal_number refusal) offset; rest = Nothing; after = im }
+piece_of t g b room (Refused number offset) im = record { text = refused_line number offset; rest = Nothing; after = im }
 piece_of t g b room (Events at) im = of_events (part_of t g b room at im)
 piece_of t g b room Nothing im = record { text = []; rest = Nothing; after = im }
 
@@ -39,13 +38,13 @@ pub record Puts (r : Put) (old new : List ℕ) (im : Images) (p : Piece) : Type 
 
 -- where events are left, they are those of an accepted file, and no more of them have been than bytes
 unfoldable pub Ready : List ℕ → Tree → Rest → Type 0
-Ready b t (Refused refusal offset) = Unit {0}
+Ready b t (Refused number offset) = Unit {0}
 Ready b t (Events at) = (rack_refusal t ≡ 0) × (length b ≤ 65536) × (at.number ≤ at.offset + 1)
 Ready b t Nothing = Unit {0}
 
 -- a bound of how many parts are left
 unfoldable pub to_go : List ℕ → Rest → ℕ
-to_go b (Refused refusal offset) = 1
+to_go b (Refused number offset) = 1
 to_go b (Events at) = length b - at.offset
 to_go b Nothing = 0
 

@@ -3,7 +3,6 @@ use Rattle.std.specs.Prelude.{◌≡◌, ℕ}
 use Rattle.std.proofs.Math.Path.{refl, sym}
 use mathlib.Core.List.{List, ◌++◌, append-nil}
 use Rattle.rack.specs.definitions.Tree.{Tree}
-use Rattle.rack.specs.definitions.Refused.{refusal_number}
 use Rattle.seat.specs.definitions.Grants.{Grants}
 use Rattle.register_image.specs.definitions.Image.{Images}
 use Rattle.print_line.specs.definitions.Line.{refused_line}
@@ -19,6 +18,6 @@ module _ (t : Tree) (g : Grants) (b : List ℕ) where
 
   pub piece_output : (room : ℕ) (rest : Rest) (im : Images) → completed (piece_of t g b room rest im) ≡ output_from t g b rest im
   unfolding piece_of output_from
-  piece_output room (Refused refusal offset) im = append-nil (refused_line (refusal_number refusal) offset)
+  piece_output room (Refused number offset) im = append-nil (refused_line number offset)
   piece_output room (Events at) im = sym (part_lines t g b room at im)
   piece_output room Nothing im = refl

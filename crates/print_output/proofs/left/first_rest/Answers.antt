@@ -20,4 +20,4 @@ overflow_cast-result c =
     omega (arith, refused_offset c.args.file.now h)
 
 pub returns-in-Err : goal.returns-in-Err
-returns-in-Err c = let h = rw c.in-Err.is at c.requires in rest_refused c.args.file.now h _
+returns-in-Err c = let h = rw c.in-Err.is at c.requires in rest_refused c.args.file.now h _ c.from.ensures
