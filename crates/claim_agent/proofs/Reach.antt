@@ -31,25 +31,30 @@ first_le s io a q =
     leb-true s.range.first a
     (both (leb s.range.first a) (leb a s.range.last) (both (io && s.io || not io && not s.io) (within s.range a) q).1).0
 
-three : (l : List Area) → length l ≡ 3 → l ≡ get_or l 0 no_area ∷ get_or l 1 no_area ∷ get_or l 2 no_area ∷ []
-three [] h = absurd (omega arith)
-three (x ∷ []) h = absurd (omega arith)
-three (x ∷ y ∷ []) h = absurd (omega arith)
-three (x ∷ y ∷ z ∷ []) h = refl
-three (x ∷ y ∷ z ∷ w ∷ l) h = absurd (omega arith)
+three : (l : List Area) (e : Area) → length l ≡ 3 → l ≡ get_or l 0 e ∷ get_or l 1 e ∷ get_or l 2 e ∷ []
+three [] e h = absurd (omega arith)
+three (x ∷ []) e h = absurd (omega arith)
+three (x ∷ y ∷ []) e h = absurd (omega arith)
+three (x ∷ y ∷ z ∷ []) e h = refl
+three (x ∷ y ∷ z ∷ w ∷ l) e h = absurd (omega arith)
+
+-- what is gone through is a device's areas also where each is read by its number, in their order
+pub in_order : (d : DeviceClaims) (e : Area) {l : List Area} → length d.areas ≡ 3
+    → l ≡ get_or d.areas 0 e ∷ get_or d.areas 1 e ∷ get_or d.areas 2 e ∷ [] → l ≡ d.areas
+in_order d e all spelt = spelt ∙ sym (three d.areas e all)
 
 module _ (d : DeviceClaims) (all : length d.areas ≡ 3) where
   -- the ends are cut region after region
   pub until_is : (a e : ℕ) → fold (λ (m : ℕ) (s : Area). cut_range s.range a m) e d.areas ≡ regions_until d a e
   unfolding regions_until
-  until_is a e = ap (fold (λ (m : ℕ) (s : Area). cut_range s.range a m) e) (three d.areas all)
+  until_is a e = ap (fold (λ (m : ℕ) (s : Area). cut_range s.range a m) e) (three d.areas no_area all)
 
   module _ (io : Bool) (a : ℕ) where
     -- where the first region that holds an address stands is its number, 3 where none does
     number_is : position_or_len (λ (s : Area). holds s io a) d.areas ≡ reached d io a
     unfolding reached
     number_is =
-        ap (position_or_len (λ (s : Area). holds s io a)) (three d.areas all)
+        ap (position_or_len (λ (s : Area). holds s io a)) (three d.areas no_area all)
         ∙ tested (holds (area_at d 0) io a) (λ p. rw p)
         (λ p. tested (holds (area_at d 1) io a) (λ q. rw (p, q)) (λ q. tested (holds (area_at d 2) io a) (λ s. rw (p, q, s)) (λ s. rw (p, q, s))))
 
